@@ -1,0 +1,37 @@
+-- The two lowest-numbered units of a set. Assumes nothing.
+use mathlib.Core.Path.{_≡_}
+use mathlib.Core.Bool.{true, cond}
+use mathlib.Core.Logic.{_⊎_}
+use Prim.Native.Nat.{ℕ, zero, suc, _<_, _≤_}
+use Rattle.std.specs.declared.option.Option.{Option}
+use Rattle.std.specs.declared.option.Option.the-variants.{Some, None}
+use Rattle.terms.specs.Counts.{count}
+use Rattle.structures.specs.Meaning.{Units}
+
+-- The lowest-numbered unit of the set among the first n.
+abbrev pub lowest : Units → ℕ → Option ℕ
+lowest J zero = None
+lowest J (suc n) = elim (lowest J n) [ Some a ↦ Some a | None ↦ cond (J n) (Some n) None ]
+
+-- One more unit number: it completes the pair where the set has one unit below it.
+abbrev pub completed : Units → ℕ → Option ℕ → Option (ℕ × ℕ)
+completed J n None = None
+completed J n (Some a) = cond (J n) (Some (a, n)) None
+
+-- The two lowest-numbered units of the set among the first n, the lower first.
+abbrev pub two-lowest : Units → ℕ → Option (ℕ × ℕ)
+two-lowest J zero = None
+two-lowest J (suc n) = elim (two-lowest J n) [ Some pair ↦ Some pair | None ↦ completed J n (lowest J n) ]
+
+-- What that means: a and b are in the set, a below b, and every other unit of the set is above b.
+pub record Lowest-pair (J : Units) (n a b : ℕ) : Type 0 where
+  pub ordered : a < b
+  pub bounded : b < n
+  pub first-in : J a ≡ true
+  pub second-in : J b ≡ true
+  pub others-above : (c : ℕ) → J c ≡ true → (c ≡ a) ⊎ (b ≤ c)
+
+-- Without such a pair the set has fewer than two units below n.
+abbrev pub Means-lowest : Units → ℕ → Option (ℕ × ℕ) → Type 0
+Means-lowest J n None = count J n < 2
+Means-lowest J n (Some pair) = Lowest-pair J n (pair .0) (pair .1)
