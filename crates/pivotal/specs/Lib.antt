@@ -1,1 +1,5 @@
+pub mod Settling
 pub mod Certain
+pub mod Register
+pub mod Adding
+pub mod Questions

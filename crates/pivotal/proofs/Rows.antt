@@ -1,0 +1,42 @@
+-- Laws of the rows of a register. Assumes nothing.
+use mathlib.Core.Path.{_≡_, sym, ap, subst}
+use mathlib.Core.Bool.{Bool, true, false, cond}
+use mathlib.Core.List.{List, [], _∷_, _++_}
+use mathlib.Core.Logic.{inl, inr}
+use Prim.Native.Nat.{ℕ, _+_, _<_, _≤_}
+use native.Mathlib.Omega.{arith}
+use lib.ListN.{length, getD}
+use Rattle.std.proofs.shelf.Lists.{length-push, getD-push, getD-past, getD-append-left}
+use Rattle.std.proofs.shelf.Tests.{both-ways, cases-lt}
+use Rattle.std.specs.declared.option.Option.{Option}
+use Rattle.pivotal.specs.Register.{Register, blank, between, opened, Measured}
+use Rattle.pivotal.specs.declared.table.UnitRecord.{UnitRecord}
+
+abbrev Takeable : UnitRecord → Type 0
+Takeable unit = (1 ≤ unit .measure) × (unit .measure ≤ 1000000)
+
+-- one more unit of a measure that adding takes
+pub measured-push : (rows : List UnitRecord) (unit : UnitRecord) → Measured rows → 1 ≤ unit .measure → unit .measure ≤ 1000000 → Measured (rows ++ unit ∷ [])
+measured-push rows unit old low high i h =
+    elim (cases-lt i (length rows)) [
+      inl l ↦ subst Takeable (sym (getD-append-left rows (unit ∷ []) blank i l)) (old i l)
+    | inr l ↦ subst Takeable (sym (getD-push rows unit blank i (omega (arith, length-push rows unit)))) (low, high)
+    ]
+
+-- the same where the unit may have found no room
+pub measured-after : (taken : Bool) (rows rows′ : List UnitRecord) (unit : UnitRecord) → Measured rows → 1 ≤ unit .measure → unit .measure ≤ 1000000 → rows′ ≡ cond taken (rows ++ unit ∷ []) rows → Measured rows′
+measured-after true rows rows′ unit old low high e = subst Measured (sym e) (measured-push rows unit old low high)
+measured-after false rows rows′ unit old low high e = subst Measured (sym e) old
+
+-- registers with the same rows over the same denominator
+pub same-register : {rows rows′ : List UnitRecord} {over over′ : Option ℕ} → rows ≡ rows′ → over ≡ over′ → _≡_ {A = Register} (record { rows = rows; over = over }) (record { rows = rows′; over = over′ })
+same-register p q = λ i. record { rows = p i; over = q i }
+
+-- a unit that is not there is not open
+pub past-not-open : (D : ℕ) (rows : List UnitRecord) (i : ℕ) → length rows ≤ i → opened D rows i ≡ false
+past-not-open D rows i h = ap (λ (unit : UnitRecord). between D (unit .present)) (getD-past rows i blank h)
+
+-- so an open unit is there
+pub open-within : (D : ℕ) (rows : List UnitRecord) (i : ℕ) → opened D rows i ≡ true → i < length rows
+open-within D rows i e =
+    elim (cases-lt i (length rows)) [ inl l ↦ l | inr l ↦ absurd (both-ways (opened D rows i) (past-not-open D rows i l) e) ]

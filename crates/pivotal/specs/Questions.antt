@@ -1,0 +1,32 @@
+-- What the questions about a register answer. Assumes nothing.
+use mathlib.Core.Path.{_≡_}
+use mathlib.Core.Bool.{true}
+use mathlib.Core.List.{List, _++_}
+use Prim.Native.Nat.{ℕ, _+_, _<_, _≤_}
+use lib.ListN.{length, getD, drop}
+use Rattle.std.specs.declared.option.Option.the-variants.{Some, None}
+use Rattle.std.specs.declared.result.Result.{Result}
+use Rattle.std.specs.declared.result.Result.the-variants.{Ok, Err}
+use Rattle.terms.specs.Faults.{tells}
+use Rattle.terms.specs.declared.fault.Fault.{Fault}
+use Rattle.pivotal.specs.Register.{Register, blank, drawn, None-open, Lowest-open}
+use Rattle.pivotal.specs.declared.table.UnitRecord.{UnitRecord}
+
+-- Asking for unit i has this answer.
+pub data Told-unit (R : Register) (i : ℕ) : Result UnitRecord Fault → Type 0 where
+  not-set : {f : Fault} → R .over ≡ None → tells f ≡ (10, 0) → Told-unit R i (Err f)
+  too-high : {D : ℕ} {f : Fault} → R .over ≡ Some D → length (R .rows) ≤ i → tells f ≡ (13, 0) → Told-unit R i (Err f)
+  told : {D : ℕ} {unit : UnitRecord} → R .over ≡ Some D → i < length (R .rows) → unit ≡ getD (R .rows) i blank → Told-unit R i (Ok unit)
+
+-- xs are the numbers of the drawn units, each once, rising.
+pub record Roll (D : ℕ) (rows : List UnitRecord) (xs : List ℕ) : Type 0 where
+  pub rising : (k : ℕ) → k + 1 < length xs → getD xs k 0 < getD xs (k + 1) 0
+  pub only-drawn : (k : ℕ) → k < length xs → drawn D rows (getD xs k 0) ≡ true
+  pub all-drawn : (i : ℕ) → drawn D rows i ≡ true → (k : ℕ) × (k < length xs) × (getD xs k 0 ≡ i)
+
+-- Asking for the roll turns the caller's list into list′ and has this answer.
+pub data Told-roll (R : Register) (list list′ : List ℕ) : Result ℕ Fault → Type 0 where
+  not-set : {f : Fault} → R .over ≡ None → tells f ≡ (10, 0) → list′ ≡ list → Told-roll R list list′ (Err f)
+  still-open : {D i : ℕ} {f : Fault} → R .over ≡ Some D → Lowest-open D (R .rows) i → tells f ≡ (14, i) → list′ ≡ list → Told-roll R list list′ (Err f)
+  too-short : {D : ℕ} {xs : List ℕ} {f : Fault} → R .over ≡ Some D → None-open D (R .rows) → Roll D (R .rows) xs → length list < length xs → tells f ≡ (15, length xs) → list′ ≡ list → Told-roll R list list′ (Err f)
+  told : {D : ℕ} {xs : List ℕ} → R .over ≡ Some D → None-open D (R .rows) → Roll D (R .rows) xs → length xs ≤ length list → list′ ≡ xs ++ drop (length xs) list → Told-roll R list list′ (Ok (length xs))
