@@ -1,2 +1,3 @@
 pub mod Passing
 pub mod Evenness
+pub mod Taking
