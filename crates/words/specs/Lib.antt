@@ -1,2 +1,5 @@
 pub mod Source
 pub mod Drawing
+pub mod ListedLaws
+pub mod Listed
+pub mod Tape
