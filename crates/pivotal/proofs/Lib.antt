@@ -1,3 +1,5 @@
+pub mod CertainUnits
 pub mod Marks
 pub mod Options
+pub mod Rounds
 pub mod Rows

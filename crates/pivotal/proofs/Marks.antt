@@ -38,11 +38,11 @@ written-more test bytes i b h old e = record {
     marked-byte v = not (eqb v 0)
 
 zeros : (n k : ℕ) → _≡_ {A = ℕ} (getD (replicate n 0) k 0) 0
-zeros n k = elim (cases-lt k n) [ inl l ↦ getD-replicate n k 0 0 l | inr l ↦ getD-past (replicate n 0) k 0 (omega (arith, length-replicate n 0)) ]
+zeros n k = elim (cases-lt k n) [ inl l ↦ getD-replicate n k 0 0 l | inr l ↦ getD-past (replicate n 0) k 0 (omega (arith, length-replicate {A = ℕ} n 0)) ]
 
 -- none written yet
 pub written-none : (test : ℕ → Bool) → Written test (replicate 1024 0) 0
-written-none test = record { long = length-replicate 1024 0; before = λ k h. absurd (omega arith); after = λ k h. zeros 1024 k }
+written-none test = record { long = length-replicate {A = ℕ} 1024 0; before = λ k h. absurd (omega arith); after = λ k h. zeros 1024 k }
 
 -- all written, and the test fails past them
 pub written-all : (test : ℕ → Bool) (bytes : List ℕ) (i : ℕ) → Written test bytes i → ((k : ℕ) → i ≤ k → test k ≡ false) → (k : ℕ) → marks bytes k ≡ test k

@@ -2,4 +2,5 @@ pub mod Settling
 pub mod Certain
 pub mod Register
 pub mod Adding
+pub mod Stepping
 pub mod Questions

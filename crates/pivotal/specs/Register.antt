@@ -25,8 +25,12 @@ register table = record { rows = vec-items (table .records); over = table .denom
 abbrev pub blank : UnitRecord
 blank = record { measure = 0; start = 0; present = 0 }
 
+-- The measure, the start numerator and the present numerator of each unit.
 abbrev pub measures : List UnitRecord → ℕ → ℕ
 measures rows i = getD rows i blank .measure
+
+abbrev pub starts : List UnitRecord → ℕ → ℕ
+starts rows i = getD rows i blank .start
 
 abbrev pub presents : List UnitRecord → ℕ → ℕ
 presents rows i = getD rows i blank .present

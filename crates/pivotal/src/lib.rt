@@ -2,7 +2,8 @@
 mod draw;
 mod questions;
 mod settling;
+mod stepping;
 mod table;
 pub use draw::Draw;
-pub use settling::Settling;
+pub use stepping::StepRecord;
 pub use table::UnitRecord;

@@ -6,7 +6,7 @@ ghost use Rattle.pivotal.specs.Settling.{settling, outcome};
 // `bound` numbers are equally likely: those below `firsts` settle the two units the first way, and
 // the others the second way. A way is what the first unit and the second have afterwards.
 #[derive(Clone, Copy)]
-pub struct Settling {
+pub(crate) struct Settling {
     pub bound: u64,
     pub firsts: u64,
     pub first: (u32, u32),

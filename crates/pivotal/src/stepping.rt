@@ -1,0 +1,72 @@
+// What a step does to the table once it knows which units it settles.
+ghost use mathlib.Core.Path.{_≡_};
+ghost use mathlib.Core.Bool.{true};
+ghost use Prim.Native.Nat.{_-_};
+ghost use Rattle.pivotal.specs.Register.{opened, presents, Measured};
+ghost use Rattle.pivotal.specs.Stepping.{Settles};
+ghost use Rattle.std.specs.Of.Vec.{vec-items, vec-len};
+ghost use Rattle.std.specs.declared.option.Option.the-variants.{Some, None};
+use crate::settling::settle;
+use crate::table::Table;
+use terms::Fault;
+use terms::UnitNo;
+use terms::UnitNoDebug;
+use words::WordSource;
+use words::draw_below;
+
+// What a step did: the units that it settled, and the number that it drew below the bound.
+#[derive(Clone, Copy, Debug)]
+pub struct StepRecord {
+    pub first: UnitNo,
+    pub second: Option<UnitNo>,
+    pub bound: u64,
+    pub number: u32,
+}
+
+impl Table {
+    // Settles two open units against each other.
+    pub(crate) fn settle_pair<W: WordSource>(&mut self, denominator: u32, first: UnitNo, second: UnitNo, words: &mut W) -> Result<StepRecord, Fault>
+        requires apart { ⌜ (first .0 ≡ second .0 → ⊥) ⌝ }
+        requires first_open { ⌜ opened denominator (vec-items (now self .records)) (first .0) ≡ true ⌝ }
+        requires second_open { ⌜ opened denominator (vec-items (now self .records)) (second .0) ≡ true ⌝ }
+        ensures settles { λ r. ⌜ Settles denominator (vec-items (now (self .entry) .records)) (first .0) (Some (second .0)) (presents (vec-items (now (self .entry) .records)) (second .0)) (W·WordSource .source (now (words .entry))) (vec-items (now (self .exit) .records)) (W·WordSource .source (now (words .exit))) r ⌝ }
+        ensures same_len { λ _. ⌜ vec-len (now (self .exit) .records) ≡ vec-len (now (self .entry) .records) ⌝ }
+        ensures same_over { λ _. ⌜ now (self .exit) .denominator ≡ now (self .entry) .denominator ⌝ }
+        ensures measured { λ _. ⌜ (Measured (vec-items (now (self .entry) .records)) → Measured (vec-items (now (self .exit) .records))) ⌝ }
+    {
+        let a = self.records[first.0 as usize].present;
+        let b = self.records[second.0 as usize].present;
+        let settling = settle(denominator, a, b);
+        let number = draw_below(words, settling.bound)?;
+        let (one, other) = settling.outcome(number);
+        self.record_mut(first).present = one;
+        self.record_mut(second).present = other;
+        Ok(StepRecord {
+            first,
+            second: Some(second),
+            bound: settling.bound,
+            number,
+        })
+    }
+
+    // Settles the unit that is open alone against what it lacks of the denominator.
+    pub(crate) fn settle_alone<W: WordSource>(&mut self, denominator: u32, unit: UnitNo, words: &mut W) -> Result<StepRecord, Fault>
+        requires { ⌜ opened denominator (vec-items (now self .records)) (unit .0) ≡ true ⌝ }
+        ensures settles { λ r. ⌜ Settles denominator (vec-items (now (self .entry) .records)) (unit .0) None (denominator - presents (vec-items (now (self .entry) .records)) (unit .0)) (W·WordSource .source (now (words .entry))) (vec-items (now (self .exit) .records)) (W·WordSource .source (now (words .exit))) r ⌝ }
+        ensures same_len { λ _. ⌜ vec-len (now (self .exit) .records) ≡ vec-len (now (self .entry) .records) ⌝ }
+        ensures same_over { λ _. ⌜ now (self .exit) .denominator ≡ now (self .entry) .denominator ⌝ }
+        ensures measured { λ _. ⌜ (Measured (vec-items (now (self .entry) .records)) → Measured (vec-items (now (self .exit) .records))) ⌝ }
+    {
+        let a = self.records[unit.0 as usize].present;
+        let settling = settle(denominator, a, denominator - a);
+        let number = draw_below(words, settling.bound)?;
+        let (one, _) = settling.outcome(number);
+        self.record_mut(unit).present = one;
+        Ok(StepRecord {
+            first: unit,
+            second: None,
+            bound: settling.bound,
+            number,
+        })
+    }
+}
