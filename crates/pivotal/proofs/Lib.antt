@@ -1,5 +1,7 @@
 pub mod CertainUnits
+pub mod Choices
 pub mod Marks
 pub mod Options
 pub mod Rounds
 pub mod Rows
+pub mod Settled

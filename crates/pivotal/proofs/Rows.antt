@@ -5,14 +5,16 @@ use mathlib.Core.List.{List, [], _∷_, _++_}
 use mathlib.Core.Logic.{inl, inr}
 use Prim.Native.Nat.{ℕ, _+_, _<_, _≤_}
 use native.Mathlib.Omega.{arith}
+use lib.Dec.{ltb}
 use lib.ListN.{length, getD}
-use Rattle.std.proofs.shelf.Lists.{length-push, getD-push, getD-past, getD-append-left}
-use Rattle.std.proofs.shelf.Tests.{both-ways, cases-lt}
+use Rattle.std.proofs.shelf.Lists.{length-push, getD-push, getD-past, getD-read, getD-append-left}
+use Rattle.std.proofs.shelf.Tests.{both-ways, cases-lt, and-parts, ltb-true}
 use Rattle.std.specs.declared.option.Option.{Option}
 use Rattle.pivotal.specs.Register.{Register, blank, between, opened, Measured}
 use Rattle.pivotal.specs.declared.table.UnitRecord.{UnitRecord}
 
-abbrev Takeable : UnitRecord → Type 0
+-- a measure that adding takes
+abbrev pub Takeable : UnitRecord → Type 0
 Takeable unit = (1 ≤ unit .measure) × (unit .measure ≤ 1000000)
 
 -- one more unit of a measure that adding takes
@@ -40,3 +42,11 @@ past-not-open D rows i h = ap (λ (unit : UnitRecord). between D (unit .present)
 pub open-within : (D : ℕ) (rows : List UnitRecord) (i : ℕ) → opened D rows i ≡ true → i < length rows
 open-within D rows i e =
     elim (cases-lt i (length rows)) [ inl l ↦ l | inr l ↦ absurd (both-ways (opened D rows i) (past-not-open D rows i l) e) ]
+
+-- the numerator of an open unit
+pub open-below : (D a : ℕ) → between D a ≡ true → (0 < a) × (a < D)
+open-below D a e = let parts = and-parts (ltb 0 a) (ltb a D) e in (ltb-true 0 a (parts .0), ltb-true a D (parts .1))
+
+-- a record of the table, read at a unit that is there
+pub read-row : (rows : List UnitRecord) (i : ℕ) (unit : UnitRecord) → i < length rows → unit ≡ getD rows i unit → unit ≡ getD rows i blank
+read-row rows i unit there read = getD-read rows i unit there read blank

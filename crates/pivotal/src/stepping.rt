@@ -26,7 +26,6 @@ pub struct StepRecord {
 impl Table {
     // Settles two open units against each other.
     pub(crate) fn settle_pair<W: WordSource>(&mut self, denominator: u32, first: UnitNo, second: UnitNo, words: &mut W) -> Result<StepRecord, Fault>
-        requires apart { ⌜ (first .0 ≡ second .0 → ⊥) ⌝ }
         requires first_open { ⌜ opened denominator (vec-items (now self .records)) (first .0) ≡ true ⌝ }
         requires second_open { ⌜ opened denominator (vec-items (now self .records)) (second .0) ≡ true ⌝ }
         ensures settles { λ r. ⌜ Settles denominator (vec-items (now (self .entry) .records)) (first .0) (Some (second .0)) (presents (vec-items (now (self .entry) .records)) (second .0)) (W·WordSource .source (now (words .entry))) (vec-items (now (self .exit) .records)) (W·WordSource .source (now (words .exit))) r ⌝ }
@@ -34,8 +33,8 @@ impl Table {
         ensures same_over { λ _. ⌜ now (self .exit) .denominator ≡ now (self .entry) .denominator ⌝ }
         ensures measured { λ _. ⌜ (Measured (vec-items (now (self .entry) .records)) → Measured (vec-items (now (self .exit) .records))) ⌝ }
     {
-        let a = self.records[first.0 as usize].present;
-        let b = self.records[second.0 as usize].present;
+        let a = self.present_of(first);
+        let b = self.present_of(second);
         let settling = settle(denominator, a, b);
         let number = draw_below(words, settling.bound)?;
         let (one, other) = settling.outcome(number);
@@ -57,7 +56,7 @@ impl Table {
         ensures same_over { λ _. ⌜ now (self .exit) .denominator ≡ now (self .entry) .denominator ⌝ }
         ensures measured { λ _. ⌜ (Measured (vec-items (now (self .entry) .records)) → Measured (vec-items (now (self .exit) .records))) ⌝ }
     {
-        let a = self.records[unit.0 as usize].present;
+        let a = self.present_of(unit);
         let settling = settle(denominator, a, denominator - a);
         let number = draw_below(words, settling.bound)?;
         let (one, _) = settling.outcome(number);

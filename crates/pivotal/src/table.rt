@@ -7,7 +7,7 @@ ghost use mathlib.Core.Bool.{not};
 ghost use lib.Dec.{eqb};
 ghost use lib.ListN.{length, getD};
 ghost use Prim.Native.Nat.{ℕ, _<_, _≤_};
-ghost use Rattle.pivotal.specs.Register.{between, opened, Finds-open};
+ghost use Rattle.pivotal.specs.Register.{between, opened, presents, Finds-open};
 ghost use Rattle.pivotal.specs.contracts.table.Table.{the-row};
 ghost use Rattle.pivotal.specs.contracts.table.UnitRecord.{the-row as record-row};
 ghost use Rattle.std.specs.Changed.{with-item};
@@ -65,10 +65,19 @@ impl Table {
         marks
     }
 
+    // The present numerator of a unit.
+    pub(crate) fn present_of(&self, unit: UnitNo) -> u32
+        requires { ⌜ unit .0 < vec-len (now self .records) ⌝ }
+        ensures { λ r. ⌜ r ≡ presents (vec-items (now (self .entry) .records)) (unit .0) ⌝ }
+    {
+        self.records[unit.0 as usize].present
+    }
+
     // The record of one unit, lent to be changed.
     pub(crate) fn record_mut(&mut self, unit: UnitNo) -> &mut UnitRecord
         requires { ⌜ unit .0 < vec-len (now self .records) ⌝ }
-        ensures { λ r. sem 𝓤 H A (follows the-row record-row (name (self .entry)) (name r) (λ w. record { records = with-item (now (self .entry) .records) (unit .0) w; denominator = now (self .entry) .denominator })) }
+        ensures lends { λ r. sem 𝓤 H A (follows the-row record-row (name (self .entry)) (name r) (λ w. record { records = with-item (now (self .entry) .records) (unit .0) w; denominator = now (self .entry) .denominator })) }
+        ensures value { λ r. ⌜ now r ≡ getD (vec-items (now (self .entry) .records)) (unit .0) (now r) ⌝ }
     {
         &mut self.records[unit.0 as usize]
     }

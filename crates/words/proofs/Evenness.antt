@@ -46,8 +46,8 @@ one-a-block m r (suc q) h =
         total-same (λ i. f (q * m + i)) (at r) m (λ i l. ap (at r) (mod-mul-add q m i l)) ∙ one-only r m h in
     rw (suc-mul q m) (omega (arith, total-split f (q * m) m, one-a-block m r q h, block))
 
-pub even-handed : (span m : ℕ) → 1 ≤ m → Even-handed span m
-even-handed span m b r h =
+each-number : (span m : ℕ) → 1 ≤ m → (r : ℕ) → r < m → count (λ w. ltb w (limit span m) && eqb (w % m) r) span ≡ span / m
+each-number span m b r h =
     let f : ℕ → ℕ = λ w. cond (ltb w (limit span m) && eqb (w % m) r) 1 0 in
     let kept : total f (limit span m) ≡ total (λ w. at r (w % m)) (limit span m) =
         total-same f (λ w. at r (w % m)) (limit span m) (λ w l. rw (lt-ltb w (limit span m) l) refl) in
@@ -55,3 +55,6 @@ even-handed span m b r h =
         total-none (λ i. f (limit span m + i)) (span % m) (λ i l. rw (le-ltb (limit span m + i) (limit span m) (omega arith)) refl) in
     ap (total f) (sym (div-add-mod' span m)) ∙ total-split f (limit span m) (span % m)
     ∙ omega (arith, kept, lost, one-a-block m r (span / m) h)
+
+pub even-handed : (span m : ℕ) → 1 ≤ m → Even-handed span m
+even-handed span m b = record { each = each-number span m b }

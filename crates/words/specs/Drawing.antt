@@ -37,5 +37,5 @@ pub record Greatest-multiple (span m : ℕ) : Type 0 where
   pub greatest : (q : ℕ) → q * m ≤ span → q * m ≤ limit span m
 
 -- Of the words below the span that are not rejected, each number below m comes from equally many.
-abbrev pub Even-handed : ℕ → ℕ → Type 0
-Even-handed span m = (r : ℕ) → r < m → count (λ w. ltb w (limit span m) && eqb (w % m) r) span ≡ span / m
+pub record Even-handed (span m : ℕ) : Type 0 where
+  pub each : (r : ℕ) → r < m → count (λ w. ltb w (limit span m) && eqb (w % m) r) span ≡ span / m
