@@ -1,3 +1,4 @@
 pub mod Meaning
 pub mod Marks
 pub mod Lowest
+pub mod LowestLaws
