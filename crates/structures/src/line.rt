@@ -5,6 +5,7 @@ ghost use Rattle.std.specs.Results.{Cases};
 ghost use Rattle.structures.specs.Line.{line};
 ghost use Rattle.structures.specs.Lowest.{Lowest-found};
 ghost use Rattle.terms.specs.Faults.{tells};
+use crate::limits::MAX_UNITS;
 use crate::lowest::two_lowest;
 use crate::structure::Audited;
 use crate::structure::Structure;
@@ -24,7 +25,7 @@ impl Line {
         ensures answer { λ r. ⌜ Cases r (λ made. (units ≤ 1024) × (made .units ≡ units)) (λ fault. (1024 < units) × (tells fault ≡ (17, 0))) ⌝ }
         ensures lowest { λ _. ⌜ Lowest-found ⌝ }
     {
-        if units > 1024 {
+        if units > MAX_UNITS {
             return Err(Fault::StructureTooLarge);
         }
         Ok(Line {
@@ -40,16 +41,19 @@ pub impl Structure for Line as LineStructure {
         self.units
     }
 
+    // The two lowest-numbered marked units, the lower first.
     fn choice(&self, marks: &[u8]) -> Option<(UnitNo, UnitNo)> {
         two_lowest(self.units, marks)
     }
 }
 
 pub impl Audited for Line as LineAudited {
+    // One for each unit.
     fn ranges(&self) -> u32 {
         self.units as u32
     }
 
+    // Range q holds the units 0 to q.
     fn holds(&self, range: RangeNo, unit: UnitNo) -> bool {
         range.0 < self.units as u32 && unit.0 as u32 <= range.0
     }
