@@ -56,9 +56,11 @@ met-second J n k a h t met = some-from-pair J n (a .0) k (record {
   bounded = h;
   first-in = met .1;
   second-in = t;
-  others-above = λ c e. elim (cases-eq c (a .0))
-    [ inl same ↦ inl same
-    | inr d ↦ inr (elim (cases-lt c k) [ inl l ↦ absurd (both-ways (J c) (met .2 c l d) e) | inr ge ↦ ge ]) ] })
+  others-above = λ c e. elim (cases-eq c (a .0)) [
+    | inl same ↦ inl same
+    | inr d ↦ inr (elim (cases-lt c k) [ inl l ↦ absurd (both-ways (J c) (met .2 c l d) e) | inr ge ↦ ge ])
+  ];
+})
 
 -- or ends with none left.
 pub met-none : (J : Units) (n : ℕ) (o : Option UnitNo) → Met J n o → two-lowest J n ≡ None
@@ -93,28 +95,33 @@ module _ (n : ℕ) (bytes : List ℕ) (it next : Marks-reader) (i : ℕ) (mark :
   abbrev J : Units
   J = marked n bytes
 
+  -- What is left starts with the byte that the turn reads,
   ahead : left it ≡ drop (position it) bytes → drop i bytes ≡ mark .now ∷ left next
   ahead rest = ap (λ k. drop k bytes) (reads .0 .1) ∙ sym rest ∙ reads .0 .0
 
-  -- The byte that a turn reads.
+  -- which is the byte of unit i,
   here : (o : Option UnitNo) → State n bytes it o → getD bytes i 0 ≡ mark .now
   here o s = ap (λ k. getD bytes k 0) (sym (add-zero i)) ∙ sym (getD-drop i bytes 0 0) ∙ ap (λ xs. getD xs 0 0) (ahead (s .rest))
 
+  -- and marks it unless it is 0.
   marks : (o : Option UnitNo) → State n bytes it o → (mark .now ≡ 0 → ⊥) → J i ≡ true
   marks o s d = marked-by n bytes i (omega (arith, s .limit)) (λ e. d (sym (here o s) ∙ e))
 
+  -- The turn starts at i,
   come : (o : Option UnitNo) → State n bytes it o → Met J i o
   come o s = subst (λ k. Met J k o) (sym (reads .0 .1)) (s .met)
 
+  -- and what it makes of what was met, the pass goes on with.
   onward : (o p : Option UnitNo) → State n bytes it o → Met J (i + 1) p → State n bytes next p
   onward o p s met = record {
     fits = omega (arith, ap length (reads .0 .0), s .fits);
     rest = sym (ap (drop 1) (ahead (s .rest))) ∙ drop-drop 1 i bytes ∙ ap (λ k. drop k bytes) after;
     limit = omega (arith, s .limit);
-    met = subst (λ k. Met J k p) after met }
+    met = subst (λ k. Met J k p) after met;
+  }
     where
-    after : i + 1 ≡ position next
-    after = omega arith
+      after : i + 1 ≡ position next
+      after = omega arith
 
   -- A turn over the byte 0,
   pub over-zero : (o : Option UnitNo) → State n bytes it o → mark .now ≡ 0 → State n bytes next o
@@ -136,4 +143,4 @@ pub over-none : (n : ℕ) (bytes : List ℕ) (it next : Marks-reader) (o : Optio
     two-lowest (marked n bytes) n ≡ None
 over-none n bytes it next o s ends = met-none (marked n bytes) n o (passed (marked n bytes) (position it) n o (omega (arith, s .limit))
     (λ c low high. unmarked-past n bytes (position it)
-      (sym (ap length (s .rest)) ∙ ends (omega (arith, s .limit)) .0 .0) c low) (s .met))
+    (sym (ap length (s .rest)) ∙ ends (omega (arith, s .limit)) .0 .0) c low) (s .met))

@@ -28,11 +28,13 @@ up-to-lower n q i j h e = let p = and-parts (ltb q n) (leb j q) e in
 pub up-to-pairing : (n : ℕ) (J : Units) (a b : ℕ) → two-lowest J n ≡ Some (a, b) → (q : ℕ) → (up-to n q a ≡ up-to n q b → ⊥) →
     (c : ℕ) → J c ≡ true → (c ≡ a → ⊥) → (c ≡ b → ⊥) → up-to n q c ≡ false
 up-to-pairing n J a b e q apart c marked not-a not-b = let p = pair-from-some J n a b e in
-    elim (cases-bool (up-to n q c))
-      [ inl held ↦ elim (p .others-above c marked)
-        [ inl same ↦ absurd (not-a same)
-        | inr above ↦ absurd (apart (up-to-lower n q a c (omega (arith, p .ordered)) held ∙ sym (up-to-lower n q b c above held))) ]
-      | inr free ↦ free ]
+    elim (cases-bool (up-to n q c)) [
+      | inl held ↦ elim (p .others-above c marked) [
+        | inl same ↦ absurd (not-a same)
+        | inr above ↦ absurd (apart (up-to-lower n q a c (omega (arith, p .ordered)) held ∙ sym (up-to-lower n q b c above held)))
+      ]
+      | inr free ↦ free
+    ]
 
 -- The line of n units: n ranges, and the choice is the two lowest-numbered marked units.
 abbrev pub line : (n : ℕ) → n ≤ 1024 → Meaning
@@ -47,4 +49,5 @@ line n few = record {
   none-from-few = λ J _. none-from-few J n;
   few-from-none = λ J _. few-from-none J n;
   names-marked = λ J _. names-two J n;
-  pairing = λ J _. up-to-pairing n J }
+  pairing = λ J _. up-to-pairing n J;
+}

@@ -4,7 +4,7 @@ use mathlib.Core.Bool.{false}
 use Prim.Native.Nat.{ℕ, _≤_}
 use native.Mathlib.Omega.{arith}
 use Rattle.std.proofs.shelf.Tests.{false≢true}
-use Rattle.structures.specs.Meaning.{Units, Meaning}
+use Rattle.structures.specs.Meaning.{Meaning}
 use Rattle.structures.specs.Lowest.{two-lowest}
 use Rattle.structures.specs.LowestLaws.{none-from-few, few-from-none, names-two}
 
@@ -21,4 +21,5 @@ loose n few = record {
   none-from-few = λ J _. none-from-few J n;
   few-from-none = λ J _. few-from-none J n;
   names-marked = λ J _. names-two J n;
-  pairing = λ J _ a b e q apart c marked not-a not-b. refl }
+  pairing = λ J _ a b e q apart c marked not-a not-b. refl;
+}

@@ -6,6 +6,7 @@ mod lowest;
 mod structure;
 #[cfg(test)]
 mod tests;
+
 pub use line::Line;
 pub use line::LineAudited;
 pub use line::LineStructure;

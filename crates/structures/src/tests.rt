@@ -13,7 +13,11 @@ fn taken<S>(made: Result<S, Fault>) -> Result<S, u8> {
     }
 }
 
-fn check_choice<S: Structure>(structure: &S, marks: &[u8], wanted: Option<(u16, u16)>) -> Result<(), Fail> {
+fn check_choice<S: Structure>(
+    structure: &S,
+    marks: &[u8],
+    wanted: Option<(u16, u16)>,
+) -> Result<(), Fail> {
     let chosen = match structure.choice(marks) {
         Some((first, second)) => Some((first.0, second.0)),
         None => None,
