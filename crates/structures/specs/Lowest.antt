@@ -1,8 +1,10 @@
 -- The two lowest-numbered units of a set. Assumes nothing.
 use mathlib.Core.Path.{_≡_}
-use mathlib.Core.Bool.{true, cond}
+use mathlib.Core.Bool.{true, cond, not, _&&_}
 use mathlib.Core.Logic.{_⊎_}
 use Prim.Native.Nat.{ℕ, zero, suc, _<_, _≤_}
+use lib.Dec.{eqb}
+use Rattle.std.specs.Options.{mapped}
 use Rattle.std.specs.declared.option.Option.{Option}
 use Rattle.std.specs.declared.option.Option.the-variants.{Some, None}
 use Rattle.terms.specs.Counts.{count}
@@ -13,15 +15,13 @@ abbrev pub lowest : Units → ℕ → Option ℕ
 lowest J zero = None
 lowest J (suc n) = elim (lowest J n) [ Some a ↦ Some a | None ↦ cond (J n) (Some n) None ]
 
--- One more unit number: it completes the pair where the set has one unit below it.
-abbrev pub completed : Units → ℕ → Option ℕ → Option (ℕ × ℕ)
-completed J n None = None
-completed J n (Some a) = cond (J n) (Some (a, n)) None
+-- The set without the unit a.
+abbrev pub without : ℕ → Units → Units
+without a J i = J i && not (eqb i a)
 
--- The two lowest-numbered units of the set among the first n, the lower first.
+-- The two lowest-numbered units of the set among the first n: the lowest, and the lowest of the others.
 abbrev pub two-lowest : Units → ℕ → Option (ℕ × ℕ)
-two-lowest J zero = None
-two-lowest J (suc n) = elim (two-lowest J n) [ Some pair ↦ Some pair | None ↦ completed J n (lowest J n) ]
+two-lowest J n = elim (lowest J n) [ Some a ↦ mapped (λ b. (a, b)) (lowest (without a J) n) | None ↦ None ]
 
 -- What that means: a and b are in the set, a below b, and every other unit of the set is above b.
 pub record Lowest-pair (J : Units) (n a b : ℕ) : Type 0 where
@@ -35,3 +35,7 @@ pub record Lowest-pair (J : Units) (n a b : ℕ) : Type 0 where
 abbrev pub Means-lowest : Units → ℕ → Option (ℕ × ℕ) → Type 0
 Means-lowest J n None = count J n < 2
 Means-lowest J n (Some pair) = Lowest-pair J n (pair .0) (pair .1)
+
+-- The theorem: for every set and every n, the two lowest-numbered units are what they should mean.
+abbrev pub Lowest-found : Type 0
+Lowest-found = (J : Units) (n : ℕ) → Means-lowest J n (two-lowest J n)
