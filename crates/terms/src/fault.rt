@@ -11,6 +11,8 @@ use crate::numbers::UnitNoDebug;
 use crate::numbers::UnitNoPartialEq;
 use std::alloc::AllocError;
 use std::alloc::Refused;
+use std::error::Error;
+use std::fmt;
 
 #[derive(Clone, Copy, PartialEq, Eq, Debug)]
 pub enum Fault {
@@ -121,6 +123,17 @@ impl Fault {
         }
     }
 }
+
+// As a keeper reads it in a log.
+pub impl fmt::Display for Fault as FaultDisplay {
+    fn fmt<W: fmt::Write>(&self, f: &mut fmt::Formatter<W>) -> fmt::Result {
+        let number = self.number();
+        let place = self.place();
+        write!(f, "refusal {number} at {place}")
+    }
+}
+
+pub impl Error for Fault as FaultError {}
 
 pub impl From<AllocError> for Fault as FaultFromAlloc {
     ghost converts = { λ _ r. r ≡ NoMemory };

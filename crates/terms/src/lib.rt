@@ -4,6 +4,8 @@ mod numbers;
 
 pub use fault::Fault;
 pub use fault::FaultDebug;
+pub use fault::FaultDisplay;
+pub use fault::FaultError;
 pub use fault::FaultFromAlloc;
 pub use fault::FaultFromRefused;
 pub use fault::FaultPartialEq;
