@@ -3,6 +3,8 @@ mod drawing;
 mod park_miller;
 mod source;
 mod tape;
+#[cfg(test)]
+mod tests;
 pub use drawing::draw_below;
 pub use park_miller::ParkMiller;
 pub use park_miller::ParkMillerSource;

@@ -1,12 +1,11 @@
 -- Each way out is one case of `Drawn`.
-use mathlib.Core.Path.{_≡_, refl, ap, subst, sym}
-use mathlib.Core.Logic.{_⊎_, inl, inr}
-use Prim.Native.Nat.{ℕ, _+_, _*_, _/_, _<_, _≤_}
-use native.Mathlib.Nat.{add-zero}
+use mathlib.Core.Path.{_≡_, refl, sym, subst}
+use mathlib.Core.Logic.{inl, inr}
+use Prim.Native.Nat.{ℕ, _<_, _≤_}
 use native.Mathlib.Omega.{arith}
 use Rattle.words.specs.Source.{Past}
 use Rattle.words.specs.Drawing.{Rejected, limit, bound-out-of-range, accepted, words-ended, all-rejected}
-use Rattle.words.proofs.Passing.{past-none, past-more, past-some, past-end, asked-after, rejected-more}
+use Rattle.words.proofs.Passing.{past-none, past-word, past-no-word, asked-after, rejected-more}
 use Rattle.words.proofs.Evenness.{greatest-multiple, even-handed}
 use Rattle.words.proofs.drawing.draw_below.Needs as need
 
@@ -20,13 +19,10 @@ returns-then-bound-eq0 g c =
 
 pub returns-in-rest : need.returns-in-rest
 returns-in-rest g c =
-    let W = g .W·WordSource .source (c .args .words .now) in
-    let V = g .W·WordSource .source (c .next-word .last .self) in
-    let P : ℕ → Type 0 = λ n. Past n W V in
     record {
         drawn = words-ended (omega arith) (omega arith) (c .loop-read-test .taken) (c .loop-read .inv .1)
                 (asked-after (c .loop-read .inv .0) (c .in-rest .ensures tt .asked)) refl
-                (subst P (add-zero (c .loop-read .read)) (past-more (c .loop-read .inv .0) (past-end refl (c .in-rest .ensures tt .asked))));
+                (past-no-word (c .loop-read .inv .0) (c .in-rest .ensures tt .asked));
         greatest = greatest-multiple _ _;
         even = even-handed _ _
     }
@@ -38,7 +34,7 @@ returns-then-word-limit g c =
     record {
         drawn = accepted (omega arith) (omega arith) (c .loop-read-test .taken) (c .loop-read .inv .1)
                 (asked-after (c .loop-read .inv .0) (c .in-Some .ensures tt .asked)) under
-                (past-more (c .loop-read .inv .0) (past-some refl (c .in-Some .ensures tt .asked)));
+                (past-word (c .loop-read .inv .0) (c .in-Some .ensures tt .asked));
         greatest = greatest-multiple _ _;
         even = even-handed _ _
     }
@@ -47,7 +43,7 @@ pub loop-read-again : need.loop-read-again
 loop-read-again g c =
     let W = g .W·WordSource .source (c .args .words .now) in
     let over : limit (W .span) (c .args .bound) ≤ c .in-Some .word = rw (sym (c .span-span .ensures)) (c .if-word-limit .left) in
-    (past-more (c .loop-read .inv .0) (past-some refl (c .in-Some .ensures tt .asked)),
+    (past-word (c .loop-read .inv .0) (c .in-Some .ensures tt .asked),
      rejected-more W (c .args .bound) (c .loop-read .read) (c .in-Some .word) (c .loop-read .inv .1)
      (asked-after (c .loop-read .inv .0) (c .in-Some .ensures tt .asked)) over)
 
