@@ -16,6 +16,6 @@ step-first s (suc i) = ap next (step-first s i)
 pub stepping : (s : ℕ) (ok : In-range s) (ok′ : In-range (next s)) → Asked (generated s ok) (Some (next s - 1)) (generated (next s) ok′)
 stepping s ok ok′ =
     record {
-        first = refl;
-        past = record { same-span = refl; rest = λ i. rw add-one (ap (λ n. Some (next n - 1)) (step-first s i)) }
+      first = refl;
+      past = record { same-span = refl; rest = λ i. rw add-one (ap (λ n. Some (next n - 1)) (step-first s i)) };
     }

@@ -16,12 +16,12 @@ use Rattle.words.specs.declared.park_miller.ParkMiller.{ParkMiller}
 abbrev pub generated : (seed : ℕ) → In-range seed → Source
 generated seed ok =
     record {
-        span = 2147483646;
-        coming = λ i. Some (state-after seed (suc i) - 1);
-        some-span = omega arith;
-        few-span = omega arith;
-        below = words-below seed ok;
-        ended = λ i e. some-not-none (state-after seed (suc i) - 1) e
+      span = 2147483646;
+      coming = λ i. Some (state-after seed (suc i) - 1);
+      some-span = omega arith;
+      few-span = omega arith;
+      below = words-below seed ok;
+      ended = λ i e. some-not-none (state-after seed (suc i) - 1) e;
     }
 
 -- What a generator will give: the words from its state on.

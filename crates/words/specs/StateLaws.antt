@@ -19,9 +19,10 @@ no-multiple s q ok e =
 -- hence no state is 0
 pub next-in-range : (s : ℕ) → In-range s → In-range (next s)
 next-in-range s ok =
-    let d : s * 16807 / 2147483647 * 2147483647 + next s ≡ s * 16807 = div-add-mod' (s * 16807) 2147483647 in
-    (elim (cases-lt 0 (next s)) [ inl h ↦ h | inr h ↦ absurd (no-multiple s (s * 16807 / 2147483647) ok (omega arith)) ],
-     omega (arith, mod-lt (s * 16807) {m = 2147483647} (omega arith)))
+    let d : s * 16807 / 2147483647 * 2147483647 + next s ≡ s * 16807 = div-add-mod' (s * 16807) 2147483647 in (
+      elim (cases-lt 0 (next s)) [ inl h ↦ h | inr h ↦ absurd (no-multiple s (s * 16807 / 2147483647) ok (omega arith)) ],
+      omega (arith, mod-lt (s * 16807) {m = 2147483647} (omega arith)),
+    )
 
 pub states-in-range : (seed : ℕ) → In-range seed → (i : ℕ) → In-range (state-after seed i)
 states-in-range seed ok zero = ok

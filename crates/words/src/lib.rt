@@ -5,6 +5,7 @@ mod source;
 mod tape;
 #[cfg(test)]
 mod tests;
+
 pub use drawing::draw_below;
 pub use park_miller::ParkMiller;
 pub use park_miller::ParkMillerSource;

@@ -1,5 +1,6 @@
 // The Park-Miller generator: words from a seed.
 mod methods;
+
 ghost use Rattle.words.specs.States.{In-range};
 pub use methods::ParkMillerSource;
 
