@@ -4,10 +4,10 @@ use crate::park_miller::ParkMiller;
 use crate::source::WordSource;
 use terms::Fault;
 
+// Each step multiplies the state by this number.
 const MULTIPLIER: u64 = 16_807;
 // A prime, so no state ever comes to 0.
 const MODULUS: u64 = 2_147_483_647;
-
 const GREATEST_STATE: u32 = 2_147_483_646;
 
 impl ParkMiller {

@@ -38,13 +38,10 @@ impl Tape {
                 return Err(Fault::WordOutOfRange(Some(position)));
             }
         }
-        let words = Vec::from_slice(self.heap, words)?;
-        *self = Tape {
-            heap: self.heap,
-            span,
-            words,
-            position: 0,
-        };
+        // The only step that can fail comes before any change.
+        self.words = Vec::from_slice(self.heap, words)?;
+        self.span = span;
+        self.position = 0;
         Ok(())
     }
 }
