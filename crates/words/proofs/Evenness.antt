@@ -15,8 +15,8 @@ use Rattle.words.specs.Drawing.{limit, Greatest-multiple, Even-handed}
 pub greatest-multiple : (span m : ℕ) → 1 ≤ m → Greatest-multiple span m
 greatest-multiple span m h =
     record {
-        within = div-mul-le-self span m;
-        greatest = λ q b. mul-le-mul-right m (le-div q span m h b)
+      within = div-mul-le-self span m;
+      greatest = λ q b. mul-le-mul-right m (le-div q span m h b);
     }
 
 -- 1 at r, and 0 elsewhere
@@ -33,9 +33,10 @@ at-other r i e = rw (ne-eqb i r e) refl
 one-only : (r n : ℕ) → r < n → total (at r) n ≡ 1
 one-only r zero h = absurd (omega arith)
 one-only r (suc n) h =
-    elim (cases-eq n r)
-    [ inl e ↦ omega (arith, total-none (at r) n (λ i l. at-other r i (λ s. omega arith)), at-same r n e)
-    | inr e ↦ omega (arith, one-only r n (omega arith), at-other r n e) ]
+    elim (cases-eq n r) [
+      | inl e ↦ omega (arith, total-none (at r) n (λ i l. at-other r i (λ s. omega arith)), at-same r n e)
+      | inr e ↦ omega (arith, one-only r n (omega arith), at-other r n e)
+    ]
 
 -- each of q blocks of m numbers has one with the remainder r
 one-a-block : (m r q : ℕ) → r < m → total (λ w. at r (w % m)) (q * m) ≡ q
@@ -43,16 +44,16 @@ one-a-block m r zero h = rw (zero-mul m) refl
 one-a-block m r (suc q) h =
     let f : ℕ → ℕ = λ w. at r (w % m) in
     let block : total (λ i. f (q * m + i)) m ≡ 1 =
-        total-same (λ i. f (q * m + i)) (at r) m (λ i l. ap (at r) (mod-mul-add q m i l)) ∙ one-only r m h in
+    total-same (λ i. f (q * m + i)) (at r) m (λ i l. ap (at r) (mod-mul-add q m i l)) ∙ one-only r m h in
     rw (suc-mul q m) (omega (arith, total-split f (q * m) m, one-a-block m r q h, block))
 
 each-number : (span m : ℕ) → 1 ≤ m → (r : ℕ) → r < m → count (λ w. ltb w (limit span m) && eqb (w % m) r) span ≡ span / m
 each-number span m b r h =
     let f : ℕ → ℕ = λ w. cond (ltb w (limit span m) && eqb (w % m) r) 1 0 in
     let kept : total f (limit span m) ≡ total (λ w. at r (w % m)) (limit span m) =
-        total-same f (λ w. at r (w % m)) (limit span m) (λ w l. rw (lt-ltb w (limit span m) l) refl) in
+    total-same f (λ w. at r (w % m)) (limit span m) (λ w l. rw (lt-ltb w (limit span m) l) refl) in
     let lost : total (λ i. f (limit span m + i)) (span % m) ≡ 0 =
-        total-none (λ i. f (limit span m + i)) (span % m) (λ i l. rw (le-ltb (limit span m + i) (limit span m) (omega arith)) refl) in
+    total-none (λ i. f (limit span m + i)) (span % m) (λ i l. rw (le-ltb (limit span m + i) (limit span m) (omega arith)) refl) in
     ap (total f) (sym (div-add-mod' span m)) ∙ total-split f (limit span m) (span % m)
     ∙ omega (arith, kept, lost, one-a-block m r (span / m) h)
 

@@ -21,6 +21,6 @@ taking-none span words p ok h =
 pub taking-one : (span : ℕ) (words : List ℕ) (p w : ℕ) (ok ok′ : In-span span words) → p < length words → w ≡ getD words p w → Asked (listed span words p ok) (Some w) (listed span words (p + 1) ok′)
 taking-one span words p w ok ok′ h e =
     record {
-        first = rw add-zero (sym (nth-read words (length words) p w refl h e));
-        past = record { same-span = refl; rest = λ i. let s : p + 1 + i ≡ p + (i + 1) = omega arith in ap (nth words) s }
+      first = rw add-zero (sym (nth-read words (length words) p w refl h e));
+      past = record { same-span = refl; rest = λ i. let s : p + 1 + i ≡ p + (i + 1) = omega arith in ap (nth words) s };
     }

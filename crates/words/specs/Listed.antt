@@ -15,10 +15,10 @@ In-span span words = (1 ≤ span) × (span ≤ 2 ^ 32) × ((i : ℕ) → i < len
 abbrev pub listed : (span : ℕ) (words : List ℕ) (position : ℕ) → In-span span words → Source
 listed span words position ok =
     record {
-        span = span;
-        coming = λ i. nth words (position + i);
-        some-span = ok .0;
-        few-span = ok .1;
-        below = λ i w e. listed-below span words (position + i) w (ok .2) e;
-        ended = λ i e. listed-ended words position i e
+      span = span;
+      coming = λ i. nth words (position + i);
+      some-span = ok .0;
+      few-span = ok .1;
+      below = λ i w e. listed-below span words (position + i) w (ok .2) e;
+      ended = λ i e. listed-ended words position i e;
     }

@@ -1,5 +1,6 @@
 // A tape: words that the caller gives, read once from their start.
 mod methods;
+
 ghost use Rattle.std.specs.Of.Vec.{vec-items};
 ghost use Rattle.words.specs.Listed.{In-span};
 pub use methods::TapeSource;

@@ -17,7 +17,12 @@ impl Tape {
     pub fn new(heap: Global) -> Tape
         ensures { λ r. ⌜ Blank (tape-source r) ⌝ }
     {
-        Tape { heap, span: 1, words: Vec::new(heap), position: 0 }
+        Tape {
+            heap,
+            span: 1,
+            words: Vec::new(heap),
+            position: 0,
+        }
     }
 
     // Puts these words in the place of what was still to come. A refusal changes nothing.
@@ -33,8 +38,10 @@ impl Tape {
                 return Err(Fault::WordOutOfRange(Some(position)));
             }
         }
-        let words = Vec::from_slice(self.heap, words)?;
-        *self = Tape { heap: self.heap, span, words, position: 0 };
+        // The only step that can fail comes before any change.
+        self.words = Vec::from_slice(self.heap, words)?;
+        self.span = span;
+        self.position = 0;
         Ok(())
     }
 }

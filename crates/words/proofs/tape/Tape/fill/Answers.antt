@@ -18,22 +18,22 @@ returns-then-span-eq0 c =
 pub returns-then-word-span : need.returns-then-word-span
 returns-then-word-span c =
     record {
-        filled = word-out-of-range (omega arith) (c .if-span-gt-GREATEST-SPAN .left) (c .loop-position-test .taken) (c .loop-position .inv) (c .if-word-span .taken) refl;
-        kept = λ _. refl
+      filled = word-out-of-range (omega arith) (c .if-span-gt-GREATEST-SPAN .left) (c .loop-position-test .taken) (c .loop-position .inv) (c .if-word-span .taken) refl;
+      kept = λ _. refl;
     }
 
-pub returns-in-Break-words : need.returns-in-Break-words
-returns-in-Break-words c =
+pub returns-in-Break-self : need.returns-in-Break-self
+returns-in-Break-self c =
     let p = err-from-errBy (c .from-residual .result) (c .from-residual .ensures .1) in
     rw (p .1, p .2) record {
-        filled = no-memory (omega arith, c .if-span-gt-GREATEST-SPAN .left, λ i h. c .loop-position .inv i (omega arith)) refl;
-        kept = λ _. refl
+      filled = no-memory (omega arith, c .if-span-gt-GREATEST-SPAN .left, λ i h. c .loop-position .inv i (omega arith)) refl;
+      kept = λ _. refl;
     }
 
 pub returns : need.returns
 returns c =
     record {
-        filled = filled (omega arith, c .if-span-gt-GREATEST-SPAN .left, λ i h. c .loop-position .inv i (omega arith)) refl
-                 (λ i. ap (nth (vec-items (c .in-Continue-words .words))) (zero-add i) ∙ ap (λ ws. nth ws i) (c .in-Continue-words .ensures tt .made .0));
-        kept = λ e. absurd (false≢true e)
+      filled = filled (omega arith, c .if-span-gt-GREATEST-SPAN .left, λ i h. c .loop-position .inv i (omega arith)) refl
+          (λ i. ap (nth (vec-items (c .in-Continue-self .field-0))) (zero-add i) ∙ ap (λ ws. nth ws i) (c .in-Continue-self .ensures tt .made .0));
+      kept = λ e. absurd (false≢true e);
     }

@@ -20,6 +20,6 @@ returns c =
     let under : t .position < length (vec-items (t .words)) = omega (arith, found .3 .0, ap length (c .deref .ensures .value)) in
     let read : w ≡ getD (vec-items (t .words)) (t .position) w = rw (c .deref .ensures .value) at (found .1) in
     record {
-        asked = taking-one (t .span) (vec-items (t .words)) (t .position) w (t .ok) _ under read;
-        kept = λ e. let z : _≡_ {A = ℕ} 0 1 = cc e in absurd (omega arith)
+      asked = taking-one (t .span) (vec-items (t .words)) (t .position) w (t .ok) _ under read;
+      kept = λ e. let z : _≡_ {A = ℕ} 0 1 = cc e in absurd (omega arith);
     }
