@@ -2,4 +2,5 @@ pub mod CertainUnits
 pub mod Marks
 pub mod Options
 pub mod Rounds
+pub mod Rolls
 pub mod Rows
