@@ -1,0 +1,20 @@
+use mathlib.Core.Path.{refl, sym, ap, _∙_}
+use native.Mathlib.Omega.{arith}
+use Rattle.pivotal.proofs.Rolls.{drawn-numbers, roll-numbers, length-roll}
+use Rattle.pivotal.proofs.draw.Draw.roll.Needs as need
+use Rattle.pivotal.specs.Questions.{Told-roll}
+
+pub returns-in-rest : need.returns-in-rest
+returns-in-rest g c = Told-roll.not-set (c .in-rest .is) refl refl
+
+pub returns-in-Some-lowest-open : need.returns-in-Some-lowest-open
+returns-in-Some-lowest-open g c = Told-roll.still-open (c .in-Some .is) (c .in-Some-lowest-open .ensures tt) refl refl
+
+pub returns-then-list-needed : need.returns-then-list-needed
+returns-then-list-needed g c =
+    let rows = c .args .self .now .table .records .items in
+    let many = length-roll (c .in-Some .denominator) rows in
+    Told-roll.too-short (c .in-Some .is) (c .in-rest-lowest-open .ensures tt) (roll-numbers _ rows) (omega arith) (ap (λ n. (15, n)) (omega arith)) refl
+
+pub returns : need.returns
+returns g c = Told-roll.told (c .in-Some .is) (c .in-rest-lowest-open .ensures tt) (c .write-drawn .ensures)
