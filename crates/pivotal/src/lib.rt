@@ -4,6 +4,8 @@ mod questions;
 mod settling;
 mod stepping;
 mod table;
+#[cfg(test)]
+mod tests;
 pub use draw::Draw;
 pub use stepping::StepRecord;
 pub use table::UnitRecord;
