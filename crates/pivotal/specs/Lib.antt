@@ -4,3 +4,5 @@ pub mod Register
 pub mod Adding
 pub mod Stepping
 pub mod Questions
+pub mod Splitting
+pub mod Setting
