@@ -2,7 +2,9 @@ pub mod CertainUnits
 pub mod Choices
 pub mod Marks
 pub mod Options
-pub mod Rounds
 pub mod Rolls
+pub mod Rounds
 pub mod Rows
 pub mod Settled
+pub mod Splits
+pub mod Starts

@@ -5,20 +5,16 @@ use mathlib.Core.Logic.{inl, inr}
 use Prim.Native.Nat.{ℕ, zero, suc, _+_, _-_, _*_, _<_, _≤_}
 use native.Mathlib.Nat.{mul-le-mul-left, mul-le-mul-right, le-of-mul-le-mul-right}
 use native.Mathlib.Omega.{arith}
-use lib.Dec.{leb}
 use Rattle.std.proofs.shelf.Tests.{both-ways, false≢true, cases-bool, cases-lt, cond-true, le-leb, leb-true}
 use Rattle.structures.specs.Meaning.{Units}
 use Rattle.terms.specs.Counts.{total, count}
 use Rattle.terms.proofs.Totals.{Part, count-le, grown, none-part, part-le, part-same, same-set, total-cond, total-le, total-lt, total-none, total-same}
 use Rattle.pivotal.specs.Certain.{Certain, rest}
+pub use Rattle.pivotal.specs.Splitting.{qualifies}
 
 -- Each of the first n units has a measure of at least 1.
 abbrev pub Positive : ℕ → (ℕ → ℕ) → Type 0
 Positive n m = (i : ℕ) → i < n → 1 ≤ m i
-
--- The units whose measure times K is at least W.
-abbrev pub qualifies : (ℕ → ℕ) → ℕ → ℕ → Units
-qualifies m K W i = leb W (m i * K)
 
 -- each unit is in the set, or its measure is in the rest
 pub covers : (n : ℕ) (m : ℕ → ℕ) (C : Units) → Positive n m → n ≤ count C n + rest m C n

@@ -1,6 +1,7 @@
 // Pivotal draws: each unit's chance follows its measure, and each range gets its share.
 mod draw;
 mod questions;
+mod setting;
 mod settling;
 mod stepping;
 mod table;
