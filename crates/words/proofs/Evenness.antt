@@ -1,14 +1,14 @@
 -- The limit of a bound, and that each number below the bound comes from equally many words. Assumes nothing.
 use mathlib.Core.Path.{_≡_, refl, ap, sym, _∙_}
-use mathlib.Core.Bool.{Bool, true, false, cond, _&&_}
+use mathlib.Core.Bool.{cond, _&&_}
 use mathlib.Core.Logic.{inl, inr}
 use Prim.Native.Nat.{ℕ, zero, suc, _+_, _*_, _/_, _%_, _<_, _≤_}
 use lib.Dec.{ltb, eqb}
-use native.Mathlib.Nat.{div-mul-le-self, div-add-mod', le-div-iff-mul-le, mul-le-mul-right, suc-mul, zero-mul}
+use native.Mathlib.Nat.{div-mul-le-self, div-add-mod', mul-le-mul-right, suc-mul, zero-mul}
 use native.Mathlib.Omega.{arith}
 use Rattle.std.proofs.shelf.Bits.{mod-mul-add, le-div}
 use Rattle.std.proofs.shelf.Tests.{cases-eq, lt-ltb, le-ltb, eq-eqb, ne-eqb}
-use Rattle.terms.specs.Counts.{total, count}
+use Rattle.terms.specs.Counts.{total}
 use Rattle.terms.proofs.Totals.{total-same, total-none, total-split}
 use Rattle.words.specs.Drawing.{limit, Greatest-multiple, Even-handed}
 

@@ -1,9 +1,9 @@
 -- Taking words from a generator. Assumes nothing.
 use mathlib.Core.Path.{_≡_, refl, ap}
-use Prim.Native.Nat.{ℕ, zero, suc, _+_, _-_}
+use Prim.Native.Nat.{ℕ, zero, suc, _-_}
 use native.Mathlib.Numerals.{add-one}
 use Rattle.std.specs.declared.option.Option.the-variants.{Some}
-use Rattle.words.specs.Source.{Source, Past, Asked}
+use Rattle.words.specs.Source.{Asked}
 use Rattle.words.specs.States.{In-range, next, state-after}
 use Rattle.words.specs.ParkMiller.{generated}
 

@@ -1,5 +1,5 @@
 -- Taking words from the source of a list. Assumes nothing.
-use mathlib.Core.Path.{_≡_, refl, ap, sym, _∙_}
+use mathlib.Core.Path.{_≡_, refl, ap, sym}
 use mathlib.Core.List.{List}
 use Prim.Native.Nat.{ℕ, _+_, _<_, _≤_}
 use lib.ListN.{length, getD}
@@ -8,7 +8,7 @@ use native.Mathlib.Omega.{arith}
 use Rattle.std.proofs.shelf.Maps.{nth-read, nth-past}
 use Rattle.std.specs.Finite.{nth}
 use Rattle.std.specs.declared.option.Option.the-variants.{Some, None}
-use Rattle.words.specs.Source.{Source, Past, Asked}
+use Rattle.words.specs.Source.{Asked}
 use Rattle.words.specs.Listed.{In-span, listed}
 use Rattle.words.proofs.Passing.{past-none}
 

@@ -8,6 +8,7 @@ use terms::Fault;
 const MULTIPLIER: u64 = 16_807;
 // A prime, so no state ever comes to 0.
 const MODULUS: u64 = 2_147_483_647;
+
 const GREATEST_STATE: u32 = 2_147_483_646;
 
 impl ParkMiller {

@@ -1,5 +1,3 @@
-use mathlib.Core.Path.{_≡_}
-use Prim.Native.Nat.{_≤_, _/_, _*_}
 use Rattle.words.specs.Source.{Past}
 use Rattle.words.specs.Drawing.{Rejected}
 use Rattle.words.proofs.drawing.draw_below.Given as given
