@@ -1,6 +1,7 @@
 pub mod CertainUnits
 pub mod Marks
+pub mod OneRoll
 pub mod Options
-pub mod Rounds
 pub mod Rolls
+pub mod Rounds
 pub mod Rows
