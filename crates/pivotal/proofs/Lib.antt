@@ -1,6 +1,7 @@
 pub mod CertainUnits
 pub mod Choices
 pub mod Marks
+pub mod OneRoll
 pub mod Options
 pub mod Rolls
 pub mod Rounds

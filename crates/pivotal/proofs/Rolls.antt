@@ -44,6 +44,7 @@ record Passing (test : ℕ → Bool) (n : ℕ) (xs : List ℕ) : Type 0 where
   passes : (k : ℕ) → k < length xs → test (getD xs k 0) ≡ true
   all : (i : ℕ) → i < n → test i ≡ true → (k : ℕ) × (k < length xs) × (getD xs k 0 ≡ i)
 
+-- no number yet
 passing-none : (test : ℕ → Bool) → Passing test 0 []
 passing-none test = record {
   below = λ k h. absurd (omega arith);
@@ -52,6 +53,7 @@ passing-none test = record {
   all = λ i h e. absurd (omega arith);
 }
 
+-- one more number, which fails the test
 passing-no : (test : ℕ → Bool) (n : ℕ) (xs : List ℕ) → test n ≡ false → Passing test n xs → Passing test (n + 1) xs
 passing-no test n xs e old = record {
   below = λ k h. omega (arith, old .below k h);
@@ -63,40 +65,44 @@ passing-no test n xs e old = record {
     same : (i : ℕ) → i < n + 1 → n ≤ i → i ≡ n
     same i h l = omega arith
 
+-- one more number, which passes it
 passing-yes : (test : ℕ → Bool) (n : ℕ) (xs : List ℕ) → test n ≡ true → Passing test n xs → Passing test (n + 1) (xs ++ n ∷ [])
 passing-yes test n xs e old = record {
   below = λ k h. elim (cases-lt k (length xs)) [
-      inl l ↦ omega (arith, front k l, old .below k l)
+    | inl l ↦ omega (arith, front k l, old .below k l)
     | inr l ↦ omega (arith, last k h l)
-    ];
+  ];
   rising = λ k h. elim (cases-lt (k + 1) (length xs)) [
-      inl l ↦ omega (arith, front k (omega arith), front (k + 1) l, old .rising k l)
+    | inl l ↦ omega (arith, front k (omega arith), front (k + 1) l, old .rising k l)
     | inr l ↦ omega (arith, front k (omega (arith, long)), last (k + 1) h l, old .below k (omega (arith, long)))
-    ];
+  ];
   passes = λ k h. elim (cases-lt k (length xs)) [
-      inl l ↦ subst (λ v. test v ≡ true) (sym (front k l)) (old .passes k l)
+    | inl l ↦ subst (λ v. test v ≡ true) (sym (front k l)) (old .passes k l)
     | inr l ↦ subst (λ v. test v ≡ true) (sym (last k h l)) e
-    ];
+  ];
   all = λ i h t. elim (cases-lt i n) [
-      inl l ↦ let o = old .all i l t in (o .0, omega (arith, o .1, long), front (o .0) (o .1) ∙ o .2)
+    | inl l ↦ let o = old .all i l t in (o .0, omega (arith, o .1, long), front (o .0) (o .1) ∙ o .2)
     | inr l ↦ (length xs, omega (arith, long), omega (arith, last (length xs) (omega (arith, long)) (omega arith)))
-    ];
+  ];
 }
   where
     long : length (xs ++ n ∷ []) ≡ length xs + 1
     long = length-push xs n
+
     front : (k : ℕ) → k < length xs → getD (xs ++ n ∷ []) k 0 ≡ getD xs k 0
     front k h = getD-append-left xs (n ∷ []) 0 k h
+
     last : (k : ℕ) → k < length (xs ++ n ∷ []) → length xs ≤ k → getD (xs ++ n ∷ []) k 0 ≡ n
     last k h l = getD-push xs n 0 k (omega (arith, long))
 
+-- so the drawn units pass for being drawn
 passing-numbers : (D : ℕ) (rows : List UnitRecord) (n : ℕ) → Passing (drawn D rows) n (drawn-numbers D rows n)
 passing-numbers D rows zero = passing-none _
 passing-numbers D rows (suc n) =
     let old = passing-numbers D rows n in
     subst (λ m. Passing (drawn D rows) m (drawn-numbers D rows m)) (add-one n) (elim (cases-bool (drawn D rows n)) [
-      inl e ↦ subst (Passing (drawn D rows) (n + 1)) (sym (numbers-more-yes D rows n e)) (passing-yes _ n _ e old)
-    | inr e ↦ subst (Passing (drawn D rows) (n + 1)) (sym (numbers-more-no D rows n e)) (passing-no _ n _ e old)
+      | inl e ↦ subst (Passing (drawn D rows) (n + 1)) (sym (numbers-more-yes D rows n e)) (passing-yes _ n _ e old)
+      | inr e ↦ subst (Passing (drawn D rows) (n + 1)) (sym (numbers-more-no D rows n e)) (passing-no _ n _ e old)
     ])
 
 -- all of them are the roll
@@ -118,17 +124,18 @@ count-part D rows n = sumBy-take-le (λ (unit : UnitRecord). cond (eqb (unit .pr
 pub count-few : (D : ℕ) (rows : List UnitRecord) → drawn-count D rows ≤ length rows
 count-few D rows = countBy-le-length (λ (unit : UnitRecord). eqb (unit .present) D) rows
 
+-- As many numbers as a count finds among the first n units.
 abbrev Counted : ℕ → List UnitRecord → ℕ → Type 0
 Counted D rows n = length (drawn-numbers D rows n) ≡ drawn-count D (take n rows)
 
 counted-more : (D : ℕ) (rows : List UnitRecord) (n : ℕ) → n < length rows → Counted D rows n → Counted D rows (n + 1)
 counted-more D rows n h old =
     elim (cases-bool (eqb (presents rows n) D)) [
-      inl e ↦ omega (arith, ap length (numbers-more-yes D rows n (drawn-here D rows n h e)), length-push (drawn-numbers D rows n) n, count-more D rows n true h (sym e))
-    | inr e ↦ omega (arith, ap length (numbers-more-no D rows n (passed-here D rows n e)), count-more D rows n false h (sym e))
+      | inl e ↦ omega (arith, ap length (numbers-more-yes D rows n (drawn-here D rows n h e)), length-push (drawn-numbers D rows n) n, count-more D rows n true h (sym e))
+      | inr e ↦ omega (arith, ap length (numbers-more-no D rows n (passed-here D rows n e)), count-more D rows n false h (sym e))
     ]
 
--- there are as many as a count finds among the first n units
+-- there are as many as a count finds
 pub length-numbers : (D : ℕ) (rows : List UnitRecord) (n : ℕ) → n ≤ length rows → length (drawn-numbers D rows n) ≡ drawn-count D (take n rows)
 length-numbers D rows zero h = refl
 length-numbers D rows (suc n) h = subst (Counted D rows) (add-one n) (counted-more D rows n (omega arith) (length-numbers D rows n (omega arith)))
@@ -142,6 +149,7 @@ pub record Front (D : ℕ) (rows : List UnitRecord) (list list′ : List ℕ) (n
   pub many-is : many ≡ length (drawn-numbers D rows n)
   pub list-is : list′ ≡ drawn-numbers D rows n ++ drop many list
 
+-- nothing is written yet
 pub front-none : (D : ℕ) (rows : List UnitRecord) (list : List ℕ) → Front D rows list list 0 0
 front-none D rows list = record { many-is = refl; list-is = refl }
 

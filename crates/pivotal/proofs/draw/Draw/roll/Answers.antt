@@ -1,6 +1,6 @@
-use mathlib.Core.Path.{refl, sym, ap, _∙_}
+use mathlib.Core.Path.{refl, ap}
 use native.Mathlib.Omega.{arith}
-use Rattle.pivotal.proofs.Rolls.{drawn-numbers, roll-numbers, length-roll}
+use Rattle.pivotal.proofs.Rolls.{roll-numbers, length-roll}
 use Rattle.pivotal.proofs.draw.Draw.roll.Needs as need
 use Rattle.pivotal.specs.Questions.{Told-roll}
 
