@@ -11,6 +11,8 @@ use structures::Structure;
 use terms::Fault;
 use terms::FaultDebug;
 use terms::UnitNo;
+use terms::UnitNoDebug;
+use terms::UnitNoPartialEq;
 use words::Tape;
 use words::TapeSource;
 use words::WordSource;

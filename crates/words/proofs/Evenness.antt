@@ -8,7 +8,7 @@ use native.Mathlib.Nat.{div-mul-le-self, div-add-mod', mul-le-mul-right, suc-mul
 use native.Mathlib.Omega.{arith}
 use Rattle.std.proofs.shelf.Bits.{mod-mul-add, le-div}
 use Rattle.std.proofs.shelf.Tests.{cases-eq, lt-ltb, le-ltb, eq-eqb, ne-eqb}
-use Rattle.terms.specs.Counts.{total}
+use Rattle.terms.specs.Counts.{total, count}
 use Rattle.terms.proofs.Totals.{total-same, total-none, total-split}
 use Rattle.words.specs.Drawing.{limit, Greatest-multiple, Even-handed}
 
