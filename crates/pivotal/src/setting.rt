@@ -156,7 +156,8 @@ impl<S: Structure> Draw<S> {
             return Err(Fault::AlreadySet);
         }
         let added = self.table.records.len();
-        if added < self.structure.units() as usize {
+        let units = self.structure.units() as usize;
+        if added < units {
             return Err(Fault::UnitsMissing(added as u16));
         }
         if size == 0 || size as usize > added {
