@@ -146,7 +146,7 @@ impl Table {
 }
 
 impl<S: Structure> Draw<S> {
-    // Sets the draw so that exactly `size` units are drawn, each with a chance that follows its measure.
+    // Sets the draw by how many units it is to draw: each unit starts with a chance that follows its measure.
     pub fn set_by_size(&mut self, size: u32) -> Result<(), Fault>
         ensures sized { λ r. ⌜ Sized (S·Structure .meaning (now (self .entry) .structure)) (register (now (self .entry) .table)) size (register (now (self .exit) .table)) r ⌝ }
         ensures same_structure { λ _. ⌜ now (self .exit) .structure ≡ now (self .entry) .structure ⌝ }
@@ -156,7 +156,8 @@ impl<S: Structure> Draw<S> {
             return Err(Fault::AlreadySet);
         }
         let added = self.table.records.len();
-        if added < self.structure.units() as usize {
+        let units = self.structure.units() as usize;
+        if added < units {
             return Err(Fault::UnitsMissing(added as u16));
         }
         if size == 0 || size as usize > added {

@@ -16,7 +16,7 @@ loop-found-holds c =
     subst (Reached (length rows) (measures rows) (c .args .size) 0) (sym (c .total-measure .ensures)) (reached-start _ _ _)
 
 pub returns-then-next-found : need.returns-then-next-found
-returns-then-next-found c = round-off (c .loop-found .inv) (c .split-by-next .ensures) (c .if-next-found .taken)
+returns-then-next-found c = round-off (c .loop-found .inv) (c .split-by-next .ensures) (omega (arith, c .if-next-found .taken))
 
 pub loop-found-less : need.loop-found-less
 loop-found-less c =
