@@ -128,18 +128,23 @@ fn measures(rt: LibcRuntime) -> Result<(), Fail> {
 }
 
 #[test]
-fn questions(rt: LibcRuntime) -> Result<(), Fail> {
-    let mut list = [9; 3];
+fn units(rt: LibcRuntime) -> Result<(), Fail> {
     let mut draw = added(rt.alloc(), &[1, 1, 2])?;
-    check_refused(draw.unit(UnitNo(0)), 10, 0)?;
-    check_refused(draw.roll(&mut list), 10, 0)?;
+    check_refused(draw.unit(UnitNo(3)), 10, 0)?;
     draw.set_by_size(2)?;
     check_refused(draw.unit(UnitNo(3)), 13, 0)?;
+    check_eq(draw.unit(UnitNo(2))?.measure, 2)
+}
+
+#[test]
+fn rolls(rt: LibcRuntime) -> Result<(), Fail> {
+    let mut list = [9; 3];
+    let mut draw = set(rt.alloc(), &[1, 1, 2], 2)?;
     check_refused(draw.roll(&mut list), 14, 0)?;
     let mut words = Tape::new(rt.alloc());
     words.fill(2, &[1])?;
     draw.step(&mut words)?;
-    check_refused(draw.roll(&mut list[0..1]), 15, 2)?;
+    check_refused(draw.roll(&mut [0]), 15, 2)?;
     check_eq(draw.roll(&mut list)?, 2)?;
     check_eq(list, [1, 2, 9])
 }
