@@ -2,11 +2,13 @@
 use mathlib.Core.Path.{_≡_, refl, sym, ap, subst, _∙_}
 use mathlib.Core.List.{List}
 use mathlib.Core.Logic.{inl, inr}
-use Prim.Native.Nat.{ℕ, _<_, _≤_}
+use mathlib.Core.Bool.{false}
+use Prim.Native.Nat.{ℕ, _+_, _-_, _*_, _<_, _≤_}
 use native.Mathlib.Omega.{arith}
+use lib.Dec.{ltb}
 use lib.ListN.{length, getD, set}
 use Rattle.std.proofs.shelf.Lists.{getD-set-same, getD-set-other, length-set}
-use Rattle.std.proofs.shelf.Tests.{cases-eq}
+use Rattle.std.proofs.shelf.Tests.{cases-eq, cond-false, le-ltb}
 use Rattle.std.specs.declared.option.Option.{Option}
 use Rattle.std.specs.declared.result.Result.the-variants.{Ok, Err}
 use Rattle.terms.specs.declared.fault.Fault.{Fault}
@@ -14,7 +16,7 @@ use Rattle.words.specs.Drawing.{Drawn}
 use Rattle.words.specs.Source.{Source}
 use Rattle.pivotal.proofs.Rows.{Takeable}
 use Rattle.pivotal.specs.Register.{blank, presents, Measured}
-use Rattle.pivotal.specs.Settling.{settling, outcome}
+use Rattle.pivotal.specs.Settling.{settling, outcome, Residue-settles}
 use Rattle.pivotal.specs.Stepping.{Settles, renumbered, settled, step-record}
 use Rattle.pivotal.specs.declared.settling.Settling.{Settling}
 use Rattle.pivotal.specs.declared.table.UnitRecord.{UnitRecord}
@@ -50,3 +52,12 @@ measured-renumbered rows i a old k h =
       inl e ↦ subst (λ n. Takeable (getD (renumbered rows i a) n blank)) (sym e) (subst Takeable (sym (getD-set-same rows i _ blank (subst (λ n. n < length rows) e within))) (old i (subst (λ n. n < length rows) e within)))
     | inr ne ↦ subst Takeable (sym (getD-set-other rows i k _ blank ne)) (old k within)
     ]
+
+-- settling against what is lacking
+pub residue-settles : Residue-settles
+residue-settles D a h =
+    let over : ltb (a + (D - a)) D ≡ false = le-ltb (a + (D - a)) D (omega arith) in
+    let bound : 2 * D - (a + (D - a)) ≡ D = omega arith in
+    let firsts : D - (D - a) ≡ a = omega arith in
+    let left : a + (D - a) - D ≡ 0 = omega arith in
+    cond-false _ _ _ over ∙ (λ i. record { bound = bound i; firsts = firsts i; first = (D, left i); second = (left i, D) })

@@ -1,17 +1,22 @@
 -- How two units settle by one number. Assumes nothing.
+use mathlib.Core.Path.{_≡_}
 use mathlib.Core.Bool.{cond}
-use Prim.Native.Nat.{ℕ, _+_, _-_, _*_}
+use Prim.Native.Nat.{ℕ, _+_, _-_, _*_, _≤_}
 use lib.Dec.{ltb}
 use Rattle.pivotal.specs.declared.settling.Settling.{Settling}
 
--- Of `bound` numbers the first `firsts` settle the units the first way, and the others the second
--- way. Together the units have a + b: below D one of them takes it all; from D on one of them
+-- How units with the numerators a and b over D settle: of `bound` numbers the first `firsts`
+-- settle them the first way, and the others the second way. Together the units have a + b: below D one of them takes it all; from D on one of them
 -- takes D, and the other what is left. A unit that is open alone settles against what it lacks of D,
 -- which is no unit's: b is then D - a, the bound is D, and the unit gets D or 0.
 abbrev pub settling : ℕ → ℕ → ℕ → Settling
 settling D a b = cond (ltb (a + b) D)
     (record { bound = a + b; firsts = a; first = (a + b, 0); second = (0, a + b) })
     (record { bound = 2 * D - (a + b); firsts = D - b; first = (D, a + b - D); second = (a + b - D, D) })
+
+-- So a unit that is open alone gets D by the first a of D numbers, and 0 by the others.
+abbrev pub Residue-settles : Type 0
+Residue-settles = (D a : ℕ) → a ≤ D → settling D a (D - a) ≡ record { bound = D; firsts = a; first = (D, 0); second = (0, D) }
 
 -- What the two units have after the number r.
 abbrev pub outcome : Settling → ℕ → ℕ × ℕ

@@ -4,8 +4,11 @@ ghost use mathlib.Core.List.{[]};
 ghost use Prim.Native.Nat.{_≤_};
 ghost use Rattle.pivotal.specs.Adding.{Added};
 ghost use Rattle.pivotal.specs.Register.{register, Measured};
+ghost use Rattle.pivotal.specs.Settling.{Residue-settles};
 ghost use Rattle.pivotal.specs.Stepping.{Stepped};
-ghost use Rattle.std.specs.Of.Vec.{vec-items, vec-len};
+ghost use Rattle.terms.specs.Faults.{tells};
+ghost use Rattle.std.specs.Of.Vec.{vec-items, vec-len, vec-cap};
+ghost use Rattle.std.specs.Vec.{refused};
 ghost use Rattle.std.specs.declared.option.Option.the-variants.{None};
 use crate::stepping::StepRecord;
 use crate::table::Table;
@@ -43,9 +46,11 @@ impl<S: Structure> Draw<S> {
         }
     }
 
-    // Adds a unit of this measure, and tells its number.
+    // Adds a unit of this measure, and tells its number. Want of memory is told only where the table
+    // had no room left.
     pub fn add(&mut self, measure: u32) -> Result<UnitNo, Fault>
         ensures added { λ r. ⌜ Added (S·Structure .meaning (now (self .entry) .structure)) (register (now (self .entry) .table)) measure (register (now (self .exit) .table)) r ⌝ }
+        ensures memory { λ r. ⌜ refused r (λ fault. tells fault ≡ (99, 0) → vec-cap (now (self .entry) .table .records) ≤ vec-len (now (self .entry) .table .records)) ⌝ }
         ensures same_structure { λ _. ⌜ now (self .exit) .structure ≡ now (self .entry) .structure ⌝ }
     {
         if self.table.denominator.is_some() {
@@ -70,6 +75,7 @@ impl<S: Structure> Draw<S> {
     // Settles two open units, chosen by the structure, or the one that is left.
     pub fn step<W: WordSource>(&mut self, words: &mut W) -> Result<StepRecord, Fault>
         ensures stepped { λ r. ⌜ Stepped (S·Structure .meaning (now (self .entry) .structure)) (register (now (self .entry) .table)) (W·WordSource .source (now (words .entry))) (register (now (self .exit) .table)) (W·WordSource .source (now (words .exit))) r ⌝ }
+        ensures residue { λ _. ⌜ Residue-settles ⌝ }
         ensures same_structure { λ _. ⌜ now (self .exit) .structure ≡ now (self .entry) .structure ⌝ }
     {
         let Some(denominator) = self.table.denominator else {

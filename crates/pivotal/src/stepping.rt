@@ -57,14 +57,14 @@ impl Table {
         ensures measured { λ _. ⌜ (Measured (vec-items (now (self .entry) .records)) → Measured (vec-items (now (self .exit) .records))) ⌝ }
     {
         let a = self.present_of(unit);
-        let settling = settle(denominator, a, denominator - a);
-        let number = draw_below(words, settling.bound)?;
-        let (one, _) = settling.outcome(number);
+        let residue = settle(denominator, a, denominator - a);
+        let number = draw_below(words, residue.bound)?;
+        let (one, _) = residue.outcome(number);
         self.record_mut(unit).present = one;
         Ok(StepRecord {
             first: unit,
             second: None,
-            bound: settling.bound,
+            bound: residue.bound,
             number,
         })
     }

@@ -19,8 +19,8 @@ present-of-a-requires g c κs =
 pub sub-denominator : need.sub-denominator
 sub-denominator g c = omega (arith, open-below (c .args .denominator) (presents (c .args .self .now .records .items) (c .args .unit .0)) (c .pre) .1)
 
-pub settle-settling-requires : need.settle-settling-requires
-settle-settling-requires g c κs = 
+pub settle-residue-requires : need.settle-residue-requires
+settle-residue-requires g c κs = 
     record {
       a-within = omega (arith, open-below (c .args .denominator) (presents (c .args .self .now .records .items) (c .args .unit .0)) (c .pre) .1);
       b-within = omega arith;
@@ -32,7 +32,7 @@ returns-in-Break-number g c =
     let rows = c .args .self .now .records .items in
     let p = err-from-errBy (c .from-residual .result) (c .from-residual .ensures .1) in
     record {
-      settles = rw (p .1, p .2) (failed D rows (c .args .unit .0) None _ _ _ _ (c .settle-settling .ensures ∙ ap (λ a. settling D a (D - a)) (c .present-of-a .ensures)) _ (c .in-Break-number .ensures tt .drawn));
+      settles = rw (p .1, p .2) (failed D rows (c .args .unit .0) None _ _ _ _ (c .settle-residue .ensures ∙ ap (λ a. settling D a (D - a)) (c .present-of-a .ensures)) _ (c .in-Break-number .ensures tt .drawn));
       same-len = refl;
       same-over = refl;
       measured = λ h. h;
@@ -51,7 +51,7 @@ returns g c =
     let i = c .args .unit .0 in
     let lent = read-row rows i _ (open-within D rows i (c .pre)) (c .record-mut .ensures .value) in
     record {
-      settles = succeeded D rows i None _ _ _ _ (c .settle-settling .ensures ∙ ap (λ a. settling D a (D - a)) (c .present-of-a .ensures)) _ _ (c .in-Continue-number .ensures tt .drawn) (written rows i _ _ lent ∙ ap (λ (got : ℕ × ℕ). renumbered rows i (got .0)) (c .outcome-one .ensures));
+      settles = succeeded D rows i None _ _ _ _ (c .settle-residue .ensures ∙ ap (λ a. settling D a (D - a)) (c .present-of-a .ensures)) _ _ (c .in-Continue-number .ensures tt .drawn) (written rows i _ _ lent ∙ ap (λ (got : ℕ × ℕ). renumbered rows i (got .0)) (c .outcome-one .ensures));
       same-len = refl;
       same-over = refl;
       measured = λ h. subst Measured (sym (written rows i _ _ lent)) (measured-renumbered rows i _ h);
