@@ -21,8 +21,8 @@ Takeable unit = (1 ≤ unit .measure) × (unit .measure ≤ 1000000)
 pub measured-push : (rows : List UnitRecord) (unit : UnitRecord) → Measured rows → 1 ≤ unit .measure → unit .measure ≤ 1000000 → Measured (rows ++ unit ∷ [])
 measured-push rows unit old low high i h =
     elim (cases-lt i (length rows)) [
-      inl l ↦ subst Takeable (sym (getD-append-left rows (unit ∷ []) blank i l)) (old i l)
-    | inr l ↦ subst Takeable (sym (getD-push rows unit blank i (omega (arith, length-push rows unit)))) (low, high)
+      | inl l ↦ subst Takeable (sym (getD-append-left rows (unit ∷ []) blank i l)) (old i l)
+      | inr l ↦ subst Takeable (sym (getD-push rows unit blank i (omega (arith, length-push rows unit)))) (low, high)
     ]
 
 -- the same where the unit may have found no room

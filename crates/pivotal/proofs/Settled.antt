@@ -49,8 +49,8 @@ pub measured-renumbered : (rows : List UnitRecord) (i a : ℕ) → Measured rows
 measured-renumbered rows i a old k h =
     let within : k < length rows = omega (arith, length-set rows i (record { measure = getD rows i blank .measure; start = getD rows i blank .start; present = a })) in
     elim (cases-eq k i) [
-      inl e ↦ subst (λ n. Takeable (getD (renumbered rows i a) n blank)) (sym e) (subst Takeable (sym (getD-set-same rows i _ blank (subst (λ n. n < length rows) e within))) (old i (subst (λ n. n < length rows) e within)))
-    | inr ne ↦ subst Takeable (sym (getD-set-other rows i k _ blank ne)) (old k within)
+      | inl e ↦ subst (λ n. Takeable (getD (renumbered rows i a) n blank)) (sym e) (subst Takeable (sym (getD-set-same rows i _ blank (subst (λ n. n < length rows) e within))) (old i (subst (λ n. n < length rows) e within)))
+      | inr ne ↦ subst Takeable (sym (getD-set-other rows i k _ blank ne)) (old k within)
     ]
 
 -- settling against what is lacking

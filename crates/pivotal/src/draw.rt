@@ -64,11 +64,13 @@ impl<S: Structure> Draw<S> {
         if measure == 0 || measure > MOST_MEASURE {
             return Err(Fault::MeasureOutOfRange(unit));
         }
-        self.table.records.push(UnitRecord {
-            measure,
-            start: 0,
-            present: 0,
-        })?;
+        self.table
+            .records
+            .push(UnitRecord {
+                measure,
+                start: 0,
+                present: 0,
+            })?;
         Ok(unit)
     }
 

@@ -7,6 +7,7 @@ mod stepping;
 mod table;
 #[cfg(test)]
 mod tests;
+
 pub use draw::Draw;
 pub use stepping::StepRecord;
 pub use table::UnitRecord;

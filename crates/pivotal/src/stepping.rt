@@ -25,7 +25,13 @@ pub struct StepRecord {
 
 impl Table {
     // Settles two open units against each other.
-    pub(crate) fn settle_pair<W: WordSource>(&mut self, denominator: u32, first: UnitNo, second: UnitNo, words: &mut W) -> Result<StepRecord, Fault>
+    pub(crate) fn settle_pair<W: WordSource>(
+        &mut self,
+        denominator: u32,
+        first: UnitNo,
+        second: UnitNo,
+        words: &mut W,
+    ) -> Result<StepRecord, Fault>
         requires first_open { ⌜ opened denominator (vec-items (now self .records)) (first .0) ≡ true ⌝ }
         requires second_open { ⌜ opened denominator (vec-items (now self .records)) (second .0) ≡ true ⌝ }
         ensures settles { λ r. ⌜ Settles denominator (vec-items (now (self .entry) .records)) (first .0) (Some (second .0)) (presents (vec-items (now (self .entry) .records)) (second .0)) (W·WordSource .source (now (words .entry))) (vec-items (now (self .exit) .records)) (W·WordSource .source (now (words .exit))) r ⌝ }
@@ -49,7 +55,12 @@ impl Table {
     }
 
     // Settles the unit that is open alone against what it lacks of the denominator.
-    pub(crate) fn settle_alone<W: WordSource>(&mut self, denominator: u32, unit: UnitNo, words: &mut W) -> Result<StepRecord, Fault>
+    pub(crate) fn settle_alone<W: WordSource>(
+        &mut self,
+        denominator: u32,
+        unit: UnitNo,
+        words: &mut W,
+    ) -> Result<StepRecord, Fault>
         requires { ⌜ opened denominator (vec-items (now self .records)) (unit .0) ≡ true ⌝ }
         ensures settles { λ r. ⌜ Settles denominator (vec-items (now (self .entry) .records)) (unit .0) None (denominator - presents (vec-items (now (self .entry) .records)) (unit .0)) (W·WordSource .source (now (words .entry))) (vec-items (now (self .exit) .records)) (W·WordSource .source (now (words .exit))) r ⌝ }
         ensures same_len { λ _. ⌜ vec-len (now (self .exit) .records) ≡ vec-len (now (self .entry) .records) ⌝ }

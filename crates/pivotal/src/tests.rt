@@ -55,7 +55,10 @@ fn check_refused<T: Drop>(answer: Result<T, Fault>, number: u8, place: u64) -> R
 #[test]
 fn certain_units(rt: LibcRuntime) -> Result<(), Fail> {
     let heap = rt.alloc();
-    check_presents(&set(heap, &[10, 20, 30, 40, 300], 3)?, &[20, 40, 60, 80, 100])?;
+    check_presents(
+        &set(heap, &[10, 20, 30, 40, 300], 3)?,
+        &[20, 40, 60, 80, 100],
+    )?;
     check_presents(&set(heap, &[1, 2, 10, 100], 3)?, &[1, 2, 3, 3])?;
     check_presents(&set(heap, &[1, 1, 2], 2)?, &[1, 1, 2])?;
     check_presents(&set(heap, &[5, 5, 5], 3)?, &[1, 1, 1])
@@ -76,12 +79,19 @@ fn settlings() -> Result<(), Fail> {
 // What is left open alone settles against what it lacks: the only unit here has 30 of 100.
 fn left_alone(heap: Global) -> Result<Draw<Line>, Fail> {
     let line = Line::new(1)?;
-    let unit = UnitRecord { measure: 30, start: 30, present: 30 };
+    let unit = UnitRecord {
+        measure: 30,
+        start: 30,
+        present: 30,
+    };
     let table = Table {
         records: vec![in heap; unit]?,
         denominator: Some(100),
     };
-    Ok(Draw { structure: line, table })
+    Ok(Draw {
+        structure: line,
+        table,
+    })
 }
 
 #[test]

@@ -8,24 +8,44 @@ use terms::FaultError;
 use terms::UnitNo;
 
 // Each gate with its cost and the numerator that it starts from.
-pub(crate) fn print_register<S: Structure>(rt: &impl Print, draw: &Draw<S>) -> Result<(), AnyError> {
+pub(crate) fn print_register<S: Structure>(
+    rt: &impl Print,
+    draw: &Draw<S>,
+) -> Result<(), AnyError> {
     println!(rt, "unit      cost  numerator  structure")?;
     for (i, gate) in GATES.iter().enumerate() {
         let unit = draw.unit(UnitNo(i as u16))?;
-        println!(rt, "{i:>4}  {:>8}  {:>9}  {}", unit.measure, unit.start, gate.name)?;
+        println!(
+            rt,
+            "{i:>4}  {:>8}  {:>9}  {}",
+            unit.measure, unit.start, gate.name
+        )?;
     }
     println!(rt, "")?;
     Ok(())
 }
 
 // One step: the units, the number below the bound, and what the units have afterwards.
-pub(crate) fn print_step<S: Structure>(rt: &impl Print, draw: &Draw<S>, step: usize, record: &StepRecord) -> Result<(), AnyError> {
+pub(crate) fn print_step<S: Structure>(
+    rt: &impl Print,
+    draw: &Draw<S>,
+    step: usize,
+    record: &StepRecord,
+) -> Result<(), AnyError> {
     let first = draw.unit(record.first)?;
-    print!(rt, "step {step:>2}: {} of {}, ", record.number, record.bound)?;
+    print!(
+        rt,
+        "step {step:>2}: {} of {}, ",
+        record.number, record.bound
+    )?;
     match record.second {
         Some(other) => {
             let second = draw.unit(other)?;
-            println!(rt, "units {} and {} have {} and {}", record.first.0, other.0, first.present, second.present)?;
+            println!(
+                rt,
+                "units {} and {} have {} and {}",
+                record.first.0, other.0, first.present, second.present
+            )?;
         }
         None => println!(rt, "unit {} alone has {}", record.first.0, first.present)?,
     }

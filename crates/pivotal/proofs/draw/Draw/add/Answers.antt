@@ -30,7 +30,7 @@ returns-then-added-units g c =
     record { added = Added.register-full (none-from _ (sym (c .if-is-some .ensures tt))) (omega arith) refl refl; memory = other-number 2 (lit< tt); same-structure = refl }
 
 pub returns-then-measure-eq0 : need.returns-then-measure-eq0
-returns-then-measure-eq0 g c = 
+returns-then-measure-eq0 g c =
     let v = c .args .self .now .table .records .ok .0 in
     record { added = Added.measure-out-of-range (none-from _ (sym (c .if-is-some .ensures tt))) (omega arith) (elim (c .then-measure-eq0 .either) [ inl e ↦ inl e | inr e ↦ inr (e .1) ]) (ap (λ n. (3, n)) (omega arith)) refl; memory = other-number 3 (lit< tt); same-structure = refl }
 

@@ -23,7 +23,7 @@ returns-in-rest-choice g c =
     }
 
 pub settle-pair-requires : need.settle-pair-requires
-settle-pair-requires g c κs = 
+settle-pair-requires g c κs =
     let self = c .args .self .now in
     let M = g .S·Structure .meaning (self .structure) in
     let rows = self .table .records .items in

@@ -20,7 +20,7 @@ pub sub-denominator : need.sub-denominator
 sub-denominator g c = omega (arith, open-below (c .args .denominator) (presents (c .args .self .now .records .items) (c .args .unit .0)) (c .pre) .1)
 
 pub settle-residue-requires : need.settle-residue-requires
-settle-residue-requires g c κs = 
+settle-residue-requires g c κs =
     record {
       a-within = omega (arith, open-below (c .args .denominator) (presents (c .args .self .now .records .items) (c .args .unit .0)) (c .pre) .1);
       b-within = omega arith;
