@@ -56,7 +56,7 @@ pub record Lowest-open (D : ℕ) (rows : List UnitRecord) (i : ℕ) : Type 0 whe
   pub is-open : opened D rows i ≡ true
   pub none-before : (j : ℕ) → j < i → opened D rows j ≡ false
 
--- A search for the lowest open unit.
+-- What looking for the lowest open unit finds.
 abbrev pub Finds-open : ℕ → List UnitRecord → Option UnitNo → Type 0
 Finds-open D rows None = None-open D rows
 Finds-open D rows (Some unit) = Lowest-open D rows (unit .0)

@@ -4,13 +4,10 @@ ghost use mathlib.Core.List.{[]};
 ghost use Prim.Native.Nat.{_≤_};
 ghost use Rattle.pivotal.specs.Adding.{Added};
 ghost use Rattle.pivotal.specs.Register.{register, Measured};
-ghost use Rattle.pivotal.specs.Settling.{Residue-settles};
-ghost use Rattle.pivotal.specs.Stepping.{Stepped};
 ghost use Rattle.terms.specs.Faults.{tells};
 ghost use Rattle.std.specs.Of.Vec.{vec-items, vec-len, vec-cap};
 ghost use Rattle.std.specs.Vec.{refused};
 ghost use Rattle.std.specs.declared.option.Option.the-variants.{None};
-use crate::stepping::StepRecord;
 use crate::table::Table;
 use crate::table::UnitRecord;
 use std::alloc::Global;
@@ -18,7 +15,6 @@ use structures::Structure;
 use terms::Fault;
 use terms::FaultFromRefused;
 use terms::UnitNo;
-use words::WordSource;
 
 // The largest measure that a unit may have.
 const MOST_MEASURE: u32 = 1_000_000;
@@ -72,24 +68,5 @@ impl<S: Structure> Draw<S> {
                 present: 0,
             })?;
         Ok(unit)
-    }
-
-    // Settles two open units, chosen by the structure, or the one that is left.
-    pub fn step<W: WordSource>(&mut self, words: &mut W) -> Result<StepRecord, Fault>
-        ensures stepped { λ r. ⌜ Stepped (S·Structure .meaning (now (self .entry) .structure)) (register (now (self .entry) .table)) (W·WordSource .source (now (words .entry))) (register (now (self .exit) .table)) (W·WordSource .source (now (words .exit))) r ⌝ }
-        ensures residue { λ _. ⌜ Residue-settles ⌝ }
-        ensures same_structure { λ _. ⌜ now (self .exit) .structure ≡ now (self .entry) .structure ⌝ }
-    {
-        let Some(denominator) = self.table.denominator else {
-            return Err(Fault::NotSet);
-        };
-        let Some(lowest) = self.table.lowest_open(denominator) else {
-            return Err(Fault::NothingOpen);
-        };
-        let marks = self.table.open_marks(denominator);
-        let Some((first, second)) = self.structure.choice(&marks) else {
-            return self.table.settle_alone(denominator, lowest, words);
-        };
-        self.table.settle_pair(denominator, first, second, words)
     }
 }

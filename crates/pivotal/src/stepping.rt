@@ -1,13 +1,16 @@
-// What a step does to the table once it knows which units it settles.
+// A step: two open units, or the one that is left, settle by a number drawn from random words.
 ghost use mathlib.Core.Path.{_≡_};
 ghost use mathlib.Core.Bool.{true};
 ghost use Prim.Native.Nat.{_-_};
-ghost use Rattle.pivotal.specs.Register.{opened, presents, Measured};
-ghost use Rattle.pivotal.specs.Stepping.{Settles};
+ghost use Rattle.pivotal.specs.Register.{opened, presents, register, Measured};
+ghost use Rattle.pivotal.specs.Settling.{Residue-settles};
+ghost use Rattle.pivotal.specs.Stepping.{Settles, Stepped};
 ghost use Rattle.std.specs.Of.Vec.{vec-items, vec-len};
 ghost use Rattle.std.specs.declared.option.Option.the-variants.{Some, None};
+use crate::draw::Draw;
 use crate::settling::settle;
 use crate::table::Table;
+use structures::Structure;
 use terms::Fault;
 use terms::UnitNo;
 use terms::UnitNoDebug;
@@ -78,5 +81,26 @@ impl Table {
             bound: residue.bound,
             number,
         })
+    }
+}
+
+impl<S: Structure> Draw<S> {
+    // Settles two open units, chosen by the structure, or the one that is left.
+    pub fn step<W: WordSource>(&mut self, words: &mut W) -> Result<StepRecord, Fault>
+        ensures stepped { λ r. ⌜ Stepped (S·Structure .meaning (now (self .entry) .structure)) (register (now (self .entry) .table)) (W·WordSource .source (now (words .entry))) (register (now (self .exit) .table)) (W·WordSource .source (now (words .exit))) r ⌝ }
+        ensures residue { λ _. ⌜ Residue-settles ⌝ }
+        ensures same_structure { λ _. ⌜ now (self .exit) .structure ≡ now (self .entry) .structure ⌝ }
+    {
+        let Some(denominator) = self.table.denominator else {
+            return Err(Fault::NotSet);
+        };
+        let Some(lowest) = self.table.lowest_open(denominator) else {
+            return Err(Fault::NothingOpen);
+        };
+        let marks = self.table.open_marks(denominator);
+        let Some((first, second)) = self.structure.choice(&marks) else {
+            return self.table.settle_alone(denominator, lowest, words);
+        };
+        self.table.settle_pair(denominator, first, second, words)
     }
 }
