@@ -1,6 +1,8 @@
 // The register of a small canal: what stands along it from the summit down, and what a full repair
 // of each would cost.
 
+pub(crate) const NAME: &str = "Hollin Canal";
+
 pub(crate) struct Gate {
     pub(crate) name: &'static str,
     pub(crate) cost: u32,

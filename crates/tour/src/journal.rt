@@ -1,5 +1,8 @@
 // What is printed of a draw.
 use crate::canal::GATES;
+use crate::canal::NAME;
+use crate::canal::SEED;
+use crate::canal::SIZE;
 use pivotal::Draw;
 use pivotal::StepRecord;
 use std::error::AnyError;
@@ -7,11 +10,18 @@ use structures::Structure;
 use terms::FaultError;
 use terms::UnitNo;
 
-// Each gate with its cost and the numerator that it starts from.
+// Whose roll it is, and each gate with its cost and the numerator that it starts from. A gate that
+// is sure to be drawn has the whole denominator.
 pub(crate) fn print_register<S: Structure>(
     rt: &impl Print,
     draw: &Draw<S>,
 ) -> Result<(), AnyError> {
+    println!(
+        rt,
+        "{NAME}: {SIZE} of {} structures, seed {SEED}",
+        GATES.len()
+    )?;
+    println!(rt, "")?;
     println!(rt, "unit      cost  numerator  structure")?;
     for (i, gate) in GATES.iter().enumerate() {
         let unit = draw.unit(UnitNo(i as u16))?;
@@ -25,7 +35,7 @@ pub(crate) fn print_register<S: Structure>(
     Ok(())
 }
 
-// One step: the units, the number below the bound, and what the units have afterwards.
+// One step: the units, the number drawn below the bound, and what the units have afterwards.
 pub(crate) fn print_step<S: Structure>(
     rt: &impl Print,
     draw: &Draw<S>,
@@ -35,7 +45,7 @@ pub(crate) fn print_step<S: Structure>(
     let first = draw.unit(record.first)?;
     print!(
         rt,
-        "step {step:>2}: {} of {}, ",
+        "step {step:>2}: number {} of {}, ",
         record.number, record.bound
     )?;
     match record.second {
@@ -43,16 +53,16 @@ pub(crate) fn print_step<S: Structure>(
             let second = draw.unit(other)?;
             println!(
                 rt,
-                "units {} and {} have {} and {}",
+                "units {} and {} get {} and {}",
                 record.first.0, other.0, first.present, second.present
             )?;
         }
-        None => println!(rt, "unit {} alone has {}", record.first.0, first.present)?,
+        None => println!(rt, "unit {} alone gets {}", record.first.0, first.present)?,
     }
     Ok(())
 }
 
-// The gates on the roll by name.
+// The gates on the roll, by name.
 pub(crate) fn print_roll<S: Structure>(rt: &impl Print, draw: &Draw<S>) -> Result<(), AnyError> {
     let mut list = [0u16; 1024];
     let drawn = draw.roll(&mut list)?;
