@@ -1,4 +1,4 @@
-// Units in a row, as gates along one drain: every stretch from the first unit on keeps its share.
+// Units in a row, as gates along a canal: every stretch from the first unit on keeps its share.
 ghost use mathlib.Core.Path.{_≡_};
 ghost use Prim.Native.Nat.{_<_, _≤_};
 ghost use Rattle.std.specs.Results.{Cases};
