@@ -8,7 +8,7 @@ use native.Mathlib.Omega.{arith}
 use lib.ListN.{length, getD}
 use Rattle.std.proofs.shelf.Lists.{ext-getD}
 use Rattle.std.proofs.shelf.Tests.{cases-lt}
-use Rattle.pivotal.specs.Questions.{Roll}
+use Rattle.pivotal.specs.Questions.{Roll, Roll-is-determined}
 use Rattle.pivotal.specs.declared.table.UnitRecord.{UnitRecord}
 
 -- Each number is larger than the one before it.
@@ -64,6 +64,6 @@ shorter D rows xs ys p q =
     elim (cases-lt (length ys) (length xs)) [ inl l ↦ absurd (omega (arith, agree-below D rows xs ys p q (length ys + 1) (length ys) (omega arith) l .0)) | inr l ↦ l ]
 
 -- two rolls of a register are the same list
-pub one-roll : (D : ℕ) (rows : List UnitRecord) (xs ys : List ℕ) → Roll D rows xs → Roll D rows ys → xs ≡ ys
-one-roll D rows xs ys p q =
+pub roll-is-determined : Roll-is-determined
+roll-is-determined D rows xs ys p q =
     ext-getD 0 xs ys (omega (arith, shorter D rows xs ys p q, shorter D rows ys xs q p)) (λ k h. agree-below D rows xs ys p q (k + 1) k (omega arith) h .1)

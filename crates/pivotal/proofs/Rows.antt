@@ -9,8 +9,10 @@ use lib.Dec.{ltb}
 use lib.ListN.{length, getD}
 use Rattle.std.proofs.shelf.Lists.{length-push, getD-push, getD-past, getD-read, getD-append-left}
 use Rattle.std.proofs.shelf.Tests.{both-ways, cases-lt, and-parts, ltb-true}
+use Rattle.std.specs.Of.Vec.{vec-items, vec-len}
 use Rattle.std.specs.declared.option.Option.{Option}
 use Rattle.pivotal.specs.Register.{Register, blank, between, opened, Measured}
+use Rattle.pivotal.specs.declared.table.Table.{Table}
 use Rattle.pivotal.specs.declared.table.UnitRecord.{UnitRecord}
 
 -- a measure that adding takes
@@ -42,6 +44,10 @@ past-not-open D rows i h = ap (λ (unit : UnitRecord). between D (unit .present)
 pub open-within : (D : ℕ) (rows : List UnitRecord) (i : ℕ) → opened D rows i ≡ true → i < length rows
 open-within D rows i e =
     elim (cases-lt i (length rows)) [ inl l ↦ l | inr l ↦ absurd (both-ways (opened D rows i) (past-not-open D rows i l) e) ]
+
+-- and the table has a record of it
+pub open-there : (table : Table) (D i : ℕ) → opened D (vec-items (table .records)) i ≡ true → i < vec-len (table .records)
+open-there table D i e = let same = table .records .ok .0 in omega (arith, open-within D (vec-items (table .records)) i e)
 
 -- the numerator of an open unit
 pub open-below : (D a : ℕ) → between D a ≡ true → (0 < a) × (a < D)

@@ -14,7 +14,7 @@ use Rattle.terms.specs.Counts.{total, count}
 use Rattle.terms.proofs.Totals.{count-le}
 use Rattle.pivotal.specs.Certain.{denominator, numerator, rest}
 use Rattle.pivotal.specs.Register.{Measured, measures}
-use Rattle.pivotal.specs.Splitting.{qualifies, split-of, one-more, whole, share, Certain-split}
+use Rattle.pivotal.specs.Splitting.{qualifies, split-of, one-more, denominator-by, numerator-by, Certain-split}
 use Rattle.pivotal.specs.declared.setting.Split.{Split}
 use Rattle.pivotal.specs.declared.table.UnitRecord.{UnitRecord}
 use Rattle.pivotal.proofs.Rounds.{Positive, Reached, all-certain, none-left, reached-round, reached-stop}
@@ -65,7 +65,7 @@ module _ {n : ℕ} {m : ℕ → ℕ} {k : ℕ} {found next : Split} (r : Reached
       subst (Certain-split n m k) (sym (e ∙ back)) (record { certain = stop .0; split = back })
 
 -- where every unit is in the set nothing is left over, and only there
-pub whole-is : (n : ℕ) (m : ℕ → ℕ) (C : Units) → Positive n m → whole (split-of m C n) ≡ denominator n m C
+pub whole-is : (n : ℕ) (m : ℕ → ℕ) (C : Units) → Positive n m → denominator-by (split-of m C n) ≡ denominator n m C
 whole-is n m C pos =
     elim (cases-eq (count C n) n) [
       | inl e ↦ rw (none-left n m C e, eq-eqb (count C n) n e) refl
@@ -78,9 +78,9 @@ module _ {n : ℕ} {m : ℕ → ℕ} {k : ℕ} {s : Split} (pos : Positive n m) 
   certain-units = qualifies m (k - s .certain) (s .rest)
 
   -- the denominator is the one that they give
-  pub denominator-is : whole s ≡ denominator n m certain-units
-  denominator-is = ap whole (sym (c .split)) ∙ whole-is n m certain-units pos
+  pub denominator-is : denominator-by s ≡ denominator n m certain-units
+  denominator-is = ap denominator-by (sym (c .split)) ∙ whole-is n m certain-units pos
 
   -- and so is each numerator
-  pub numerator-is : (i : ℕ) → share (k - s .certain) s (m i) ≡ numerator n m k certain-units i
+  pub numerator-is : (i : ℕ) → numerator-by (k - s .certain) s (m i) ≡ numerator n m k certain-units i
   numerator-is i = λ j. cond (certain-units i) (denominator-is j) (m i * (k - sym (c .split) j .certain))

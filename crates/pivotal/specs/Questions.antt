@@ -26,6 +26,10 @@ pub record Roll (D : ℕ) (rows : List UnitRecord) (xs : List ℕ) : Type 0 wher
   pub only-drawn : (k : ℕ) → k < length xs → drawn D rows (getD xs k 0) ≡ true
   pub all-drawn : (i : ℕ) → drawn D rows i ≡ true → (k : ℕ) × (k < length xs) × (getD xs k 0 ≡ i)
 
+-- A register has only one such list.
+abbrev pub Roll-is-determined : Type 0
+Roll-is-determined = (D : ℕ) (rows : List UnitRecord) (xs ys : List ℕ) → Roll D rows xs → Roll D rows ys → xs ≡ ys
+
 -- How many units are drawn.
 abbrev pub drawn-count : ℕ → List UnitRecord → ℕ
 drawn-count D rows = countBy (λ (unit : UnitRecord). eqb (unit .present) D) rows

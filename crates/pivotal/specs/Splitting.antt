@@ -21,12 +21,12 @@ abbrev pub one-more : Split → Bool → ℕ → Split
 one-more s b measure = record { certain = s .certain + cond b 1 0; rest = s .rest + cond b 0 measure }
 
 -- The denominator that a split gives: what is left over, or 1 where nothing is.
-abbrev pub whole : Split → ℕ
-whole s = cond (eqb (s .rest) 0) 1 (s .rest)
+abbrev pub denominator-by : Split → ℕ
+denominator-by s = cond (eqb (s .rest) 0) 1 (s .rest)
 
 -- The numerator that a split gives to a measure, with so many places left.
-abbrev pub share : ℕ → Split → ℕ → ℕ
-share places s measure = cond (leb (s .rest) (measure * places)) (whole s) (measure * places)
+abbrev pub numerator-by : ℕ → Split → ℕ → ℕ
+numerator-by places s measure = cond (leb (s .rest) (measure * places)) (denominator-by s) (measure * places)
 
 -- The split by the certain units, which are the units that qualify by it.
 pub record Certain-split (n : ℕ) (measure : ℕ → ℕ) (k : ℕ) (s : Split) : Type 0 where

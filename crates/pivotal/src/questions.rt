@@ -3,7 +3,7 @@ ghost use lib.Dec.{eqb};
 ghost use lib.ListN.{length};
 ghost use mathlib.Core.Path.{_≡_};
 ghost use Prim.Native.Nat.{_≤_};
-ghost use Rattle.pivotal.specs.Questions.{Told-unit, Told-roll, Rolled, drawn-count};
+ghost use Rattle.pivotal.specs.Questions.{Told-unit, Told-roll, Rolled, Roll-is-determined, drawn-count};
 ghost use Rattle.pivotal.specs.Register.{register};
 ghost use Rattle.std.specs.Of.Vec.{vec-items, vec-len};
 use crate::draw::Draw;
@@ -29,7 +29,8 @@ impl<S> Draw<S> {
     // Writes the numbers of the drawn units, rising, at the front of the list, and tells how many
     // there are. What stands behind them in the list is left as it was.
     pub fn roll(&self, list: &mut [u16]) -> Result<usize, Fault>
-        ensures { λ r. ⌜ Told-roll (register (now (self .entry) .table)) (now (list .entry)) (now (list .exit)) r ⌝ }
+        ensures told { λ r. ⌜ Told-roll (register (now (self .entry) .table)) (now (list .entry)) (now (list .exit)) r ⌝ }
+        ensures determined { λ _. ⌜ Roll-is-determined ⌝ }
     {
         let Some(denominator) = self.table.denominator else {
             return Err(Fault::NotSet);

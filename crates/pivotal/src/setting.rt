@@ -6,7 +6,7 @@ ghost use lib.ListN.{length};
 ghost use Rattle.pivotal.specs.Certain.{Certain-units-are-determined};
 ghost use Rattle.pivotal.specs.Register.{measures, register, Measured};
 ghost use Rattle.pivotal.specs.Setting.{Sized, Started};
-ghost use Rattle.pivotal.specs.Splitting.{qualifies, split-of, one-more, whole, share, Certain-split};
+ghost use Rattle.pivotal.specs.Splitting.{qualifies, split-of, one-more, denominator-by, numerator-by, Certain-split};
 ghost use Rattle.std.specs.Of.Vec.{vec-items, vec-len};
 ghost use Rattle.std.specs.declared.option.Option.the-variants.{Some};
 ghost use Rattle.terms.specs.Counts.{total};
@@ -46,7 +46,7 @@ impl Split {
 
     // The denominator: what the others come to, or 1 where every unit is certain.
     fn denominator(self) -> u32
-        ensures { λ r. ⌜ r ≡ whole self ⌝ }
+        ensures { λ r. ⌜ r ≡ denominator-by self ⌝ }
     {
         if self.rest == 0 { 1 } else { self.rest }
     }
@@ -66,7 +66,7 @@ impl UnitRecord {
     fn numerator(&self, places: u32, split: Split) -> u32
         requires measure { ⌜ now self .measure ≤ 1000000 ⌝ }
         requires places { ⌜ places ≤ 1024 ⌝ }
-        ensures { λ r. ⌜ r ≡ share places split (now (self .entry) .measure) ⌝ }
+        ensures { λ r. ⌜ r ≡ numerator-by places split (now (self .entry) .measure) ⌝ }
     {
         if self.is_certain(places, split.rest) {
             split.denominator()
@@ -132,8 +132,8 @@ impl Table {
     fn start(&mut self, places: u32, split: Split)
         requires measured { ⌜ Measured (vec-items (now self .records)) ⌝ }
         requires places { ⌜ places ≤ 1024 ⌝ }
-        ensures over { λ _. ⌜ now (self .exit) .denominator ≡ Some (whole split) ⌝ }
-        ensures started { λ _. ⌜ Started (vec-items (now (self .entry) .records)) (λ i. share places split (measures (vec-items (now (self .entry) .records)) i)) (vec-items (now (self .exit) .records)) ⌝ }
+        ensures over { λ _. ⌜ now (self .exit) .denominator ≡ Some (denominator-by split) ⌝ }
+        ensures started { λ _. ⌜ Started (vec-items (now (self .entry) .records)) (λ i. numerator-by places split (measures (vec-items (now (self .entry) .records)) i)) (vec-items (now (self .exit) .records)) ⌝ }
         ensures same_len { λ _. ⌜ vec-len (now (self .exit) .records) ≡ vec-len (now (self .entry) .records) ⌝ }
     {
         for record in self.records.iter_mut() {

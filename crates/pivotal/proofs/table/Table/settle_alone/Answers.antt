@@ -3,7 +3,7 @@ use Prim.Native.Nat.{ℕ, _-_}
 use native.Mathlib.Omega.{arith}
 use Rattle.std.proofs.shelf.Results.{err-from-errBy}
 use Rattle.std.specs.declared.option.Option.the-variants.{None}
-use Rattle.pivotal.proofs.Rows.{open-within, open-below, read-row}
+use Rattle.pivotal.proofs.Rows.{open-there, open-within, open-below, read-row}
 use Rattle.pivotal.proofs.Settled.{failed, succeeded, written, measured-renumbered}
 use Rattle.pivotal.proofs.table.Table.settle_alone.Needs as need
 use Rattle.pivotal.specs.Register.{presents, Measured}
@@ -11,10 +11,7 @@ use Rattle.pivotal.specs.Settling.{settling}
 use Rattle.pivotal.specs.Stepping.{renumbered}
 
 pub present-of-a-requires : need.present-of-a-requires
-present-of-a-requires g c κs =
-    let self = c .args .self .now .records in
-    let v = self .ok .0 in
-    omega (arith, open-within (c .args .denominator) (self .items) (c .args .unit .0) (c .pre))
+present-of-a-requires g c κs = open-there (c .args .self .now) (c .args .denominator) (c .args .unit .0) (c .pre)
 
 pub sub-denominator : need.sub-denominator
 sub-denominator g c = omega (arith, open-below (c .args .denominator) (presents (c .args .self .now .records .items) (c .args .unit .0)) (c .pre) .1)
@@ -39,10 +36,7 @@ returns-in-Break-number g c =
     }
 
 pub record-mut-requires : need.record-mut-requires
-record-mut-requires g c κs =
-    let self = c .args .self .now .records in
-    let v = self .ok .0 in
-    omega (arith, open-within (c .args .denominator) (self .items) (c .args .unit .0) (c .pre))
+record-mut-requires g c κs = open-there (c .args .self .now) (c .args .denominator) (c .args .unit .0) (c .pre)
 
 pub returns : need.returns
 returns g c =

@@ -4,7 +4,7 @@ use native.Mathlib.Omega.{arith}
 use Rattle.std.proofs.shelf.Lists.{length-set}
 use Rattle.std.proofs.shelf.Results.{err-from-errBy}
 use Rattle.std.specs.declared.option.Option.the-variants.{Some}
-use Rattle.pivotal.proofs.Rows.{open-within, open-below, read-row}
+use Rattle.pivotal.proofs.Rows.{open-there, open-within, open-below, read-row}
 use Rattle.pivotal.proofs.Settled.{failed, succeeded, written-both, measured-renumbered}
 use Rattle.pivotal.proofs.table.Table.settle_pair.Needs as need
 use Rattle.pivotal.specs.Register.{presents, Measured}
@@ -12,16 +12,10 @@ use Rattle.pivotal.specs.Settling.{settling}
 use Rattle.pivotal.specs.Stepping.{settled}
 
 pub present-of-a-requires : need.present-of-a-requires
-present-of-a-requires g c κs =
-    let self = c .args .self .now .records in
-    let v = self .ok .0 in
-    omega (arith, open-within (c .args .denominator) (self .items) (c .args .first .0) (c .pre .first-open))
+present-of-a-requires g c κs = open-there (c .args .self .now) (c .args .denominator) (c .args .first .0) (c .pre .first-open)
 
 pub present-of-b-requires : need.present-of-b-requires
-present-of-b-requires g c κs =
-    let self = c .args .self .now .records in
-    let v = self .ok .0 in
-    omega (arith, open-within (c .args .denominator) (self .items) (c .args .second .0) (c .pre .second-open))
+present-of-b-requires g c κs = open-there (c .args .self .now) (c .args .denominator) (c .args .second .0) (c .pre .second-open)
 
 pub settle-settling-requires : need.settle-settling-requires
 settle-settling-requires g c κs =
@@ -46,16 +40,10 @@ returns-in-Break-number g c =
     }
 
 pub record-mut-requires : need.record-mut-requires
-record-mut-requires g c κs =
-    let self = c .args .self .now .records in
-    let v = self .ok .0 in
-    omega (arith, open-within (c .args .denominator) (self .items) (c .args .first .0) (c .pre .first-open))
+record-mut-requires g c κs = open-there (c .args .self .now) (c .args .denominator) (c .args .first .0) (c .pre .first-open)
 
 pub record-mut-requires-2 : need.record-mut-requires-2
-record-mut-requires-2 g c κs =
-    let self = c .args .self .now .records in
-    let v = self .ok .0 in
-    omega (arith, open-within (c .args .denominator) (self .items) (c .args .second .0) (c .pre .second-open))
+record-mut-requires-2 g c κs = open-there (c .args .self .now) (c .args .denominator) (c .args .second .0) (c .pre .second-open)
 
 pub returns : need.returns
 returns g c =
