@@ -1,4 +1,5 @@
 pub mod CertainUnits
+pub mod Chances
 pub mod Choices
 pub mod Marks
 pub mod OneRoll

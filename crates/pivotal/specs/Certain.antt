@@ -34,3 +34,16 @@ denominator n measure C = cond (eqb (count C n) n) 1 (rest measure C n)
 -- The numerator of a unit: the whole denominator if it is certain, else its measure times the places left.
 abbrev pub numerator : ℕ → (ℕ → ℕ) → ℕ → Units → ℕ → ℕ
 numerator n measure k C i = cond (C i) (denominator n measure C) (measure i * (k - count C n))
+
+-- The chances are as they should be: the denominator is not 0, each chance is above 0 and at most 1, and
+-- together they come to the size.
+pub record Proper (n : ℕ) (measure : ℕ → ℕ) (k : ℕ) (C : Units) : Type 0 where
+  pub some-denominator : 1 ≤ denominator n measure C
+  pub above-zero : (i : ℕ) → i < n → 1 ≤ numerator n measure k C i
+  pub at-most-one : (i : ℕ) → i < n → numerator n measure k C i ≤ denominator n measure C
+  pub come-to-size : total (numerator n measure k C) n ≡ k * denominator n measure C
+
+-- So they are for positive measures and each size from 1 to the number of units.
+abbrev pub Chances-are-proper : Type 0
+Chances-are-proper = (n : ℕ) (measure : ℕ → ℕ) (k : ℕ) → ((i : ℕ) → i < n → 1 ≤ measure i) → 1 ≤ k → k ≤ n →
+    (C : Units) → Certain n measure k C → Proper n measure k C

@@ -3,7 +3,7 @@ ghost use mathlib.Core.Path.{_≡_};
 ghost use Prim.Native.Nat.{_*_, _≤_};
 ghost use lib.Dec.{leb};
 ghost use lib.ListN.{length};
-ghost use Rattle.pivotal.specs.Certain.{Certain-units-are-determined};
+ghost use Rattle.pivotal.specs.Certain.{Certain-units-are-determined, Chances-are-proper};
 ghost use Rattle.pivotal.specs.Register.{measures, register, Measured};
 ghost use Rattle.pivotal.specs.Setting.{Sized, Started};
 ghost use Rattle.pivotal.specs.Splitting.{qualifies, split-of, one-more, denominator-by, numerator-by, Certain-split};
@@ -151,6 +151,7 @@ impl<S: Structure> Draw<S> {
         ensures sized { λ r. ⌜ Sized (S·Structure .meaning (now (self .entry) .structure)) (register (now (self .entry) .table)) size (register (now (self .exit) .table)) r ⌝ }
         ensures same_structure { λ _. ⌜ now (self .exit) .structure ≡ now (self .entry) .structure ⌝ }
         ensures determined { λ _. ⌜ Certain-units-are-determined ⌝ }
+        ensures proper { λ _. ⌜ Chances-are-proper ⌝ }
     {
         if self.table.denominator.is_some() {
             return Err(Fault::AlreadySet);

@@ -7,7 +7,6 @@ use std::alloc::Global;
 use std::test::*;
 use structures::Line;
 use structures::LineStructure;
-use structures::Structure;
 use terms::Fault;
 use terms::FaultDebug;
 use terms::UnitNo;
@@ -15,7 +14,6 @@ use terms::UnitNoDebug;
 use terms::UnitNoPartialEq;
 use words::Tape;
 use words::TapeSource;
-use words::WordSource;
 
 // A draw over a line, with a unit for each measure, not yet set.
 fn added(heap: Global, measures: &[u32]) -> Result<Draw<Line>, Fail> {

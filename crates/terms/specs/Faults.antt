@@ -1,6 +1,5 @@
 -- What a fault tells. Assumes nothing.
 use Prim.Native.Nat.{ℕ}
-use Rattle.std.specs.declared.option.Option.{Option}
 use Rattle.std.specs.declared.option.Option.the-variants.{Some, None}
 use Rattle.terms.specs.declared.fault.Fault.{Fault}
 use Rattle.terms.specs.declared.fault.Fault.the-variants.{AlreadySet, RegisterFull, MeasureOutOfRange, UnitsMissing, SizeOutOfRange, DenominatorOutOfRange, BoundOutOfRange, WordsEnded, WordsRejected, NotSet, NothingOpen, LimitTooHigh, NumberTooHigh, StillOpen, ListTooShort, SetByRates, StructureTooLarge, ParentOutOfOrder, HomeTooHigh, StrataOutOfRange, StratumTooHigh, TooManyRanges, WordOutOfRange, SeedOutOfRange, NoMemory}

@@ -1,5 +1,4 @@
 // A number below a bound, each equally likely where the words are.
-ghost use mathlib.Core.Path.{_≡_};
 ghost use Prim.Native.Nat.{_≤_};
 ghost use Rattle.words.specs.Drawing.{Drawn, Greatest-multiple, Even-handed};
 use crate::source::WordSource;

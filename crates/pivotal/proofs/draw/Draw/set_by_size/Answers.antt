@@ -4,6 +4,7 @@ use native.Mathlib.Omega.{arith}
 use Rattle.std.specs.Of.Vec.{vec-items}
 use Rattle.std.specs.declared.option.Option.the-variants.{Some}
 use Rattle.pivotal.proofs.CertainUnits.{certain-units-are-determined}
+use Rattle.pivotal.proofs.Chances.{chances-are-proper}
 use Rattle.pivotal.proofs.Options.{some-from, none-from}
 use Rattle.pivotal.proofs.Splits.{denominator-is, numerator-is, positive}
 use Rattle.pivotal.proofs.Starts.{started-measured, started-same}
@@ -14,7 +15,7 @@ use Rattle.pivotal.specs.Setting.{Sized}
 pub returns-then-is-some : need.returns-then-is-some
 returns-then-is-some g c =
     let s = some-from (c .args .self .now .table .denominator) (sym (c .if-is-some .ensures tt)) in
-    record { sized = Sized.already-set (s .1) refl refl; same-structure = refl; determined = certain-units-are-determined }
+    record { sized = Sized.already-set (s .1) refl refl; same-structure = refl; determined = certain-units-are-determined; proper = chances-are-proper }
 
 pub returns-then-added-units : need.returns-then-added-units
 returns-then-added-units g c =
@@ -23,6 +24,7 @@ returns-then-added-units g c =
       sized = Sized.units-missing (none-from _ (sym (c .if-is-some .ensures tt))) (omega arith) (ap (λ n. (4, n)) (omega arith)) refl;
       same-structure = refl;
       determined = certain-units-are-determined;
+      proper = chances-are-proper;
     }
 
 pub returns-then-size-eq0 : need.returns-then-size-eq0
@@ -36,6 +38,7 @@ returns-then-size-eq0 g c =
           ]) refl refl;
       same-structure = refl;
       determined = certain-units-are-determined;
+      proper = chances-are-proper;
     }
 
 pub ghost-self : need.ghost-self
@@ -54,4 +57,5 @@ returns g c =
           (c .start .ensures .over ∙ ap Some (denominator-is pos split)) (started-same (numerator-is pos split) (c .start .ensures .started));
       same-structure = refl;
       determined = certain-units-are-determined;
+      proper = chances-are-proper;
     }

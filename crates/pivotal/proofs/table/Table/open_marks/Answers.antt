@@ -1,4 +1,3 @@
-use mathlib.Core.Path.{_∙_}
 use native.Mathlib.Omega.{arith}
 use Rattle.pivotal.proofs.Marks.{written-none, written-more, written-all}
 use Rattle.pivotal.proofs.Rows.{past-not-open}

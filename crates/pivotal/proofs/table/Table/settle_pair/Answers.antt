@@ -8,7 +8,6 @@ use Rattle.pivotal.proofs.Rows.{open-there, open-within, open-below, read-row}
 use Rattle.pivotal.proofs.Settled.{failed, succeeded, written-both, measured-renumbered}
 use Rattle.pivotal.proofs.table.Table.settle_pair.Needs as need
 use Rattle.pivotal.specs.Register.{presents, Measured}
-use Rattle.pivotal.specs.Settling.{settling}
 use Rattle.pivotal.specs.Stepping.{settled}
 
 pub present-of-a-requires : need.present-of-a-requires
