@@ -1,4 +1,4 @@
--- There is one set of certain units, which the rounds find, and what it leaves to the others. Assumes nothing.
+-- There is one set of certain units, which the rounds find, and what it leaves to the others.
 use mathlib.Core.Path.{_≡_, refl, ap}
 use mathlib.Core.Bool.{false}
 use mathlib.Core.Logic.{inl, inr}

@@ -1,4 +1,4 @@
--- The chances that the certain units leave are proper ones. Assumes nothing.
+-- The chances that the certain units leave are proper ones.
 use mathlib.Core.Path.{_≡_, refl, sym, ap, subst, _∙_}
 use mathlib.Core.Bool.{true}
 use mathlib.Core.Logic.{inl, inr}

@@ -1,4 +1,4 @@
--- What the structure's answer to the marks of a step says. Assumes nothing.
+-- What the structure's answer to the marks of a step says.
 use mathlib.Core.Path.{_≡_, sym, ap, fun-ext, _∙_}
 use mathlib.Core.Bool.{true, not, _&&_}
 use mathlib.Core.List.{List}

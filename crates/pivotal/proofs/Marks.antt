@@ -1,4 +1,4 @@
--- A byte for each unit, written from the front. Assumes nothing.
+-- A byte for each unit, written from the front.
 use mathlib.Core.Path.{_≡_, refl, sym, ap, _∙_}
 use mathlib.Core.Bool.{Bool, true, false, not}
 use mathlib.Core.List.{List}

@@ -1,4 +1,4 @@
--- A register has one roll. Assumes nothing.
+-- A register has one roll.
 use mathlib.Core.Path.{_≡_, sym, ap, subst}
 use mathlib.Core.List.{List}
 use mathlib.Core.Logic.{inl, inr}

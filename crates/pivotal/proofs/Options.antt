@@ -1,4 +1,4 @@
--- What a test of an option says. Assumes nothing.
+-- What a test of an option says.
 use mathlib.Core.Path.{_≡_, refl}
 use mathlib.Core.Bool.{true, false}
 use Rattle.std.proofs.shelf.Tests.{true≢false, false≢true}

@@ -1,4 +1,4 @@
--- The numbers of the drawn units, in the order in which they are written. Assumes nothing.
+-- The numbers of the drawn units, in the order in which they are written.
 use mathlib.Core.Path.{_≡_, refl, sym, ap, subst, _∙_}
 use mathlib.Core.Bool.{Bool, true, false, cond}
 use mathlib.Core.List.{List, [], _∷_, _++_}

@@ -1,4 +1,4 @@
--- The rounds that look for the certain units: each keeps how many were found and what the measures of the others come to. Assumes nothing.
+-- The rounds that look for the certain units: each keeps how many were found and what the measures of the others come to.
 use mathlib.Core.Path.{_≡_, refl, _∙_, ap}
 use mathlib.Core.Bool.{true, false, cond}
 use mathlib.Core.Logic.{inl, inr}

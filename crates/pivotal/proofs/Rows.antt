@@ -1,4 +1,4 @@
--- Laws of the rows of a register. Assumes nothing.
+-- Laws of the rows of a register.
 use mathlib.Core.Path.{_≡_, sym, ap, subst}
 use mathlib.Core.Bool.{Bool, true, false, cond}
 use mathlib.Core.List.{List, [], _∷_, _++_}

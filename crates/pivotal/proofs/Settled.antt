@@ -1,4 +1,4 @@
--- Settling in the table is settling in the register. Assumes nothing.
+-- Settling in the table is settling in the register.
 use mathlib.Core.Path.{_≡_, refl, sym, ap, subst, _∙_}
 use mathlib.Core.List.{List}
 use mathlib.Core.Logic.{inl, inr}

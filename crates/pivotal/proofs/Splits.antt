@@ -1,4 +1,4 @@
--- Splits of the units, the rounds that find the one by the certain units, and what it gives. Assumes nothing.
+-- Splits of the units, the rounds that find the one by the certain units, and what it gives.
 use mathlib.Core.Path.{_≡_, refl, sym, _∙_, ap, subst}
 use mathlib.Core.Bool.{Bool, cond}
 use mathlib.Core.List.{List}

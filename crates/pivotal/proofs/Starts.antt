@@ -1,4 +1,4 @@
--- Rows whose numerators are given from the front. Assumes nothing.
+-- Rows whose numerators are given from the front.
 use mathlib.Core.Path.{_≡_, refl, sym, _∙_, ap, subst}
 use mathlib.Core.List.{List}
 use Prim.Native.Nat.{ℕ, _+_, _<_, _≤_}

@@ -1,4 +1,4 @@
--- Adding a unit to the register. Assumes nothing.
+-- Adding a unit to the register.
 use mathlib.Core.Path.{_≡_}
 use mathlib.Core.List.{[], _∷_, _++_}
 use mathlib.Core.Logic.{_⊎_}

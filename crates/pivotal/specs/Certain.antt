@@ -1,4 +1,4 @@
--- The units that a size makes certain, and the chances that it gives the others. Assumes nothing.
+-- The units that a size makes certain, and the chances that it gives the others.
 use mathlib.Core.Path.{_≡_}
 use mathlib.Core.Bool.{true, cond}
 use Prim.Native.Nat.{ℕ, _-_, _*_, _<_, _≤_}

@@ -1,4 +1,4 @@
--- What the questions about a register answer. Assumes nothing.
+-- What the questions about a register answer.
 use mathlib.Core.Path.{_≡_}
 use mathlib.Core.Bool.{true}
 use mathlib.Core.List.{List, _++_}

@@ -1,4 +1,4 @@
--- The register: units in the order of adding, and, once it is set, the denominator. Assumes nothing.
+-- The register: units in the order of adding, and, once it is set, the denominator.
 use mathlib.Core.Path.{_≡_}
 use mathlib.Core.Bool.{Bool, true, false, _&&_}
 use mathlib.Core.List.{List}

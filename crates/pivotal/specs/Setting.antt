@@ -1,4 +1,4 @@
--- Setting a register by size. Assumes nothing.
+-- Setting a register by size.
 use mathlib.Core.Path.{_≡_}
 use mathlib.Core.List.{List}
 use mathlib.Core.Logic.{_⊎_}

@@ -1,4 +1,4 @@
--- How two units settle by one number. Assumes nothing.
+-- How two units settle by one number.
 use mathlib.Core.Path.{_≡_}
 use mathlib.Core.Bool.{cond}
 use Prim.Native.Nat.{ℕ, _+_, _-_, _*_, _≤_}

@@ -1,4 +1,4 @@
--- Splitting the units into those that are certain and the others. Assumes nothing.
+-- Splitting the units into those that are certain and the others.
 use mathlib.Core.Path.{_≡_}
 use mathlib.Core.Bool.{Bool, cond}
 use Prim.Native.Nat.{ℕ, _+_, _-_, _*_}

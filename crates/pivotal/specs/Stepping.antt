@@ -1,4 +1,4 @@
--- A step: two open units, or the one that is left, settle by a number drawn from the words. Assumes nothing.
+-- A step: two open units, or the one that is left, settle by a number drawn from the words.
 use mathlib.Core.Path.{_≡_}
 use mathlib.Core.Bool.{_&&_}
 use mathlib.Core.List.{List}

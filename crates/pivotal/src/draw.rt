@@ -17,7 +17,7 @@ use terms::FaultFromRefused;
 use terms::UnitNo;
 
 // The largest measure that a unit may have.
-const MOST_MEASURE: u32 = 1_000_000;
+const MAX_MEASURE: u32 = 1_000_000;
 
 #[derive(Drop)]
 pub struct Draw<S> {
@@ -57,7 +57,7 @@ impl<S: Structure> Draw<S> {
             return Err(Fault::RegisterFull);
         }
         let unit = UnitNo(added as u16);
-        if measure == 0 || measure > MOST_MEASURE {
+        if measure == 0 || measure > MAX_MEASURE {
             return Err(Fault::MeasureOutOfRange(unit));
         }
         self.table

@@ -1,4 +1,4 @@
--- The line: units in a row, a range for each unit, from unit 0 up to it. Assumes nothing.
+-- The line: units in a row, a range for each unit, from unit 0 up to it.
 use mathlib.Core.Path.{_≡_, sym, _∙_}
 use mathlib.Core.Bool.{true, false, _&&_}
 use mathlib.Core.Logic.{inl, inr}

@@ -1,4 +1,4 @@
--- The loose structure: units with nothing kept but the sum of them all. Assumes nothing.
+-- The loose structure: units with nothing kept but the sum of them all.
 use mathlib.Core.Path.{refl}
 use mathlib.Core.Bool.{false}
 use Prim.Native.Nat.{ℕ, _≤_}

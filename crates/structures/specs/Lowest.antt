@@ -1,4 +1,4 @@
--- The two lowest-numbered units of a set. Assumes nothing.
+-- The two lowest-numbered units of a set.
 use mathlib.Core.Path.{_≡_}
 use mathlib.Core.Bool.{true, cond, not, _&&_}
 use mathlib.Core.Logic.{_⊎_}

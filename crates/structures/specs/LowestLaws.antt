@@ -1,4 +1,4 @@
--- Laws of the two lowest-numbered units, over any set and any n, for every structure that chooses them. Assumes nothing.
+-- Laws of the two lowest-numbered units, over any set and any n, for every structure that chooses them.
 use mathlib.Core.Path.{_≡_, refl, ap, sym, _∙_}
 use mathlib.Core.Bool.{Bool, true, false, cond, not}
 use mathlib.Core.Logic.{inl, inr}
@@ -10,14 +10,9 @@ use Rattle.std.specs.Options.{mapped}
 use Rattle.std.specs.declared.option.Option.{Option}
 use Rattle.std.specs.declared.option.Option.the-variants.{Some, None}
 use Rattle.terms.specs.Counts.{count}
-use Rattle.terms.proofs.Totals.{total-none, count-some}
+use Rattle.terms.proofs.Totals.{at-most-one, total-none, count-some}
 use Rattle.structures.specs.Meaning.{Units}
 use Rattle.structures.specs.Lowest.{lowest, without, two-lowest, Lowest-pair, Means-lowest, Lowest-found}
-
--- A unit counts at most once.
-at-most-one : (b : Bool) → cond b 1 0 ≤ 1
-at-most-one true = omega arith
-at-most-one false = omega arith
 
 -- A set with no unit below n counts 0.
 pub count-none : (J : Units) (n : ℕ) → ((c : ℕ) → c < n → J c ≡ false) → count J n ≡ 0

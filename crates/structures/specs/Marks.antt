@@ -1,4 +1,4 @@
--- What a list of marks says, and what an answer names. Assumes nothing.
+-- What a list of marks says, and what an answer names.
 use mathlib.Core.Bool.{not, _&&_}
 use mathlib.Core.List.{List}
 use Prim.Native.Nat.{ℕ}

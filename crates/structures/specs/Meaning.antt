@@ -1,4 +1,4 @@
--- What a structure over the register means, and the laws that make drawing over it fair. Assumes nothing.
+-- What a structure over the register means, and the laws that make drawing over it fair.
 use mathlib.Core.Path.{_≡_}
 use mathlib.Core.Bool.{Bool, true, false}
 use Prim.Native.Nat.{ℕ, _^_, _<_, _≤_}

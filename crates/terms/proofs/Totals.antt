@@ -1,9 +1,9 @@
--- Laws of sums and counts over the numbers below n, each by induction on n. Assumes nothing.
+-- Laws of sums and counts over the numbers below n, each by induction on n.
 use mathlib.Core.Path.{_≡_, refl, ap}
 use mathlib.Core.Bool.{Bool, true, false, cond}
-use Prim.Native.Nat.{ℕ, zero, suc, _+_, _*_, _<_, _≤_}
 use mathlib.Core.Logic.{inl, inr}
-use native.Mathlib.Nat.{add-mul, add-zero, add-suc}
+use Prim.Native.Nat.{ℕ, zero, suc, _+_, _*_, _<_, _≤_}
+use native.Mathlib.Nat.{add-zero, add-suc}
 use native.Mathlib.Omega.{arith}
 use Rattle.std.proofs.shelf.Tests.{false≢true, cases-bool, cases-eq}
 use Rattle.terms.specs.Counts.{total, count}
@@ -27,14 +27,6 @@ total-lt f g (suc n) h j l s =
       | inr e ↦ omega (arith, total-lt f g n (λ i l. h i (omega arith)) j (omega arith) s, h n (omega arith))
     ]
 
-pub total-add : (f g : ℕ → ℕ) (n : ℕ) → total (λ i. f i + g i) n ≡ total f n + total g n
-total-add f g zero = refl
-total-add f g (suc n) = omega (arith, total-add f g n)
-
-pub total-mul : (f : ℕ → ℕ) (k n : ℕ) → total (λ i. f i * k) n ≡ total f n * k
-total-mul f k zero = omega arith
-total-mul f k (suc n) = omega (arith, total-mul f k n, add-mul (total f n) (f n) k)
-
 -- a sum of nothing but zeros
 pub total-none : (f : ℕ → ℕ) (n : ℕ) → ((i : ℕ) → i < n → f i ≡ 0) → total f n ≡ 0
 total-none f zero h = refl
@@ -50,7 +42,8 @@ pub total-split : (f : ℕ → ℕ) (n k : ℕ) → total f (n + k) ≡ total f 
 total-split f n zero = rw (add-zero n) (omega arith)
 total-split f n (suc k) = rw (add-suc n k) (omega (arith, total-split f n k))
 
-at-most-one : (b : Bool) → cond b 1 0 ≤ 1
+-- a number counts at most once
+pub at-most-one : (b : Bool) → cond b 1 0 ≤ 1
 at-most-one true = omega arith
 at-most-one false = omega arith
 

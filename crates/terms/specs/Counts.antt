@@ -1,4 +1,4 @@
--- Sets of numbers as tests, sums over the numbers below n, and how many of them are in a set. Assumes nothing.
+-- Sets of numbers as tests, sums over the numbers below n, and how many of them are in a set.
 use mathlib.Core.Path.{_≡_}
 use mathlib.Core.Bool.{Bool, true, cond}
 use Prim.Native.Nat.{ℕ, zero, suc, _+_, _<_}

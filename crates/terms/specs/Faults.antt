@@ -1,8 +1,8 @@
--- What a fault tells. Assumes nothing.
+-- What a fault tells.
 use Prim.Native.Nat.{ℕ}
 use Rattle.std.specs.declared.option.Option.the-variants.{Some, None}
 use Rattle.terms.specs.declared.fault.Fault.{Fault}
-use Rattle.terms.specs.declared.fault.Fault.the-variants.{AlreadySet, RegisterFull, MeasureOutOfRange, UnitsMissing, SizeOutOfRange, DenominatorOutOfRange, BoundOutOfRange, WordsEnded, WordsRejected, NotSet, NothingOpen, LimitTooHigh, NumberTooHigh, StillOpen, ListTooShort, SetByRates, StructureTooLarge, ParentOutOfOrder, HomeTooHigh, StrataOutOfRange, StratumTooHigh, TooManyRanges, WordOutOfRange, SeedOutOfRange, NoMemory}
+use Rattle.terms.specs.declared.fault.Fault.the-variants.{AlreadySet, RegisterFull, MeasureOutOfRange, UnitsMissing, SizeOutOfRange, DenominatorOutOfRange, BoundOutOfRange, WordsEnded, WordsRejected, NotSet, NothingOpen, LimitTooHigh, NumberTooHigh, StillOpen, ListTooShort, SetByRates, StructureTooLarge, ParentOutOfOrder, HomeTooHigh, StrataOutOfRange, StratumTooHigh, TooManyRanges, SpanOutOfRange, WordOutOfRange, SeedOutOfRange, NoMemory}
 
 -- The number and the place of each refusal. The place is 0 unless the case names one.
 abbrev pub tells : Fault → ℕ × ℕ
@@ -29,7 +29,7 @@ tells (HomeTooHigh unit) = (19, unit .0)
 tells StrataOutOfRange = (20, 0)
 tells (StratumTooHigh unit) = (21, unit .0)
 tells TooManyRanges = (22, 0)
-tells (WordOutOfRange None) = (23, 0)
-tells (WordOutOfRange (Some position)) = (23, position)
+tells SpanOutOfRange = (23, 0)
+tells (WordOutOfRange position) = (23, position)
 tells SeedOutOfRange = (24, 0)
 tells NoMemory = (99, 0)

@@ -2,7 +2,6 @@
 // specs/Faults.antt; promises about refusals are made through it.
 ghost use mathlib.Core.Path.{_≡_};
 ghost use Rattle.terms.specs.Faults.{tells};
-ghost use Rattle.terms.specs.declared.fault.Fault.the-variants.{NoMemory};
 use crate::numbers::NodeNo;
 use crate::numbers::NodeNoDebug;
 use crate::numbers::NodeNoPartialEq;
@@ -60,9 +59,10 @@ pub enum Fault {
     StratumTooHigh(UnitNo),
     // More than 4,294,967,295 ranges.
     TooManyRanges,
-    // The span is not from 1 to 4,294,967,296, and then there is no position; or the word at this
-    // position of the list, the first such, is not below it.
-    WordOutOfRange(Option<usize>),
+    // The span is not from 1 to 4,294,967,296.
+    SpanOutOfRange,
+    // The word at this position of the list, the first such, is not below the span.
+    WordOutOfRange(usize),
     // The seed is not from 1 to 2,147,483,646.
     SeedOutOfRange,
     // Memory was asked for and there is none.
@@ -97,6 +97,7 @@ impl Fault {
             Fault::StrataOutOfRange => 20,
             Fault::StratumTooHigh(_) => 21,
             Fault::TooManyRanges => 22,
+            Fault::SpanOutOfRange => 23,
             Fault::WordOutOfRange(_) => 23,
             Fault::SeedOutOfRange => 24,
             Fault::NoMemory => 99,
@@ -118,7 +119,7 @@ impl Fault {
             Fault::ParentOutOfOrder(node) => node.0 as u64,
             Fault::HomeTooHigh(unit) => unit.0 as u64,
             Fault::StratumTooHigh(unit) => unit.0 as u64,
-            Fault::WordOutOfRange(Some(position)) => *position as u64,
+            Fault::WordOutOfRange(position) => *position as u64,
             _ => 0,
         }
     }
@@ -136,7 +137,7 @@ pub impl fmt::Display for Fault as FaultDisplay {
 pub impl Error for Fault as FaultError {}
 
 pub impl From<AllocError> for Fault as FaultFromAlloc {
-    ghost converts = { λ _ r. r ≡ NoMemory };
+    ghost converts = { λ _ r. tells r ≡ (99, 0) };
 
     fn from(_e: AllocError) -> Fault {
         Fault::NoMemory
@@ -144,7 +145,7 @@ pub impl From<AllocError> for Fault as FaultFromAlloc {
 }
 
 pub impl<T: Drop> From<Refused<T>> for Fault as FaultFromRefused {
-    ghost converts = { λ _ r. r ≡ NoMemory };
+    ghost converts = { λ _ r. tells r ≡ (99, 0) };
 
     fn from(_e: Refused<T>) -> Fault {
         Fault::NoMemory

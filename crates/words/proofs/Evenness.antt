@@ -1,4 +1,4 @@
--- The limit of a bound, and that each number below the bound comes from equally many words. Assumes nothing.
+-- The limit of a bound, and that each number below the bound comes from equally many words.
 use mathlib.Core.Path.{_≡_, refl, ap, sym, _∙_}
 use mathlib.Core.Bool.{cond, _&&_}
 use mathlib.Core.Logic.{inl, inr}
@@ -15,6 +15,7 @@ use Rattle.words.specs.Drawing.{limit, Greatest-multiple, Even-handed}
 pub greatest-multiple : (span m : ℕ) → 1 ≤ m → Greatest-multiple span m
 greatest-multiple span m h =
     record {
+      multiple = (span / m, refl);
       within = div-mul-le-self span m;
       greatest = λ q b. mul-le-mul-right m (le-div q span m h b);
     }

@@ -1,4 +1,4 @@
 pub mod Passing
 pub mod Evenness
 pub mod Taking
-pub mod Stepping
+pub mod Generating

@@ -1,4 +1,4 @@
--- Sources one after another: what was taken adds up. Assumes nothing.
+-- Sources one after another: what was taken adds up.
 use mathlib.Core.Path.{_≡_, refl, ap, sym, subst, _∙_}
 use mathlib.Core.Logic.{inl, inr}
 use Prim.Native.Nat.{ℕ, _+_, _<_, _≤_}
@@ -49,9 +49,6 @@ under-limit m e h = rw (sym e) h
 
 pub over-limit : {s span : ℕ} (m : ℕ) {w : ℕ} → s ≡ span → limit s m ≤ w → limit span m ≤ w
 over-limit m e h = rw (sym e) h
-
-pub rejected-none : (W : Source) (m : ℕ) → Rejected W m 0
-rejected-none W m = λ i h. absurd (omega arith)
 
 -- one more rejected word
 pub rejected-more : (W : Source) (m j w : ℕ) → Rejected W m j → W .coming j ≡ Some w → limit (W .span) m ≤ w → Rejected W m (j + 1)

@@ -1,4 +1,4 @@
--- Taking words from the source of a list. Assumes nothing.
+-- Taking words from the source of a list.
 use mathlib.Core.Path.{_≡_, refl, ap, sym}
 use mathlib.Core.List.{List}
 use Prim.Native.Nat.{ℕ, _+_, _<_, _≤_}

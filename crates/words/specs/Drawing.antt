@@ -1,4 +1,4 @@
--- A number below a bound from the words of a source, by rejection. Assumes nothing.
+-- A number below a bound from the words of a source, by rejection.
 use mathlib.Core.Path.{_≡_}
 use mathlib.Core.Bool.{_&&_}
 use mathlib.Core.Logic.{_⊎_}
@@ -33,6 +33,7 @@ pub data Drawn (W : Source) (m : ℕ) (W′ : Source) : Result ℕ Fault → Typ
 
 -- No multiple of m up to the span is above the limit, which is one itself.
 pub record Greatest-multiple (span m : ℕ) : Type 0 where
+  pub multiple : (q : ℕ) × (limit span m ≡ q * m)
   pub within : limit span m ≤ span
   pub greatest : (q : ℕ) → q * m ≤ span → q * m ≤ limit span m
 

@@ -1,4 +1,4 @@
--- The words of a list as a source. Assumes nothing.
+-- The words of a list as a source.
 use mathlib.Core.List.{List}
 use Prim.Native.Nat.{ℕ, _+_, _^_, _<_, _≤_}
 use lib.ListN.{length, getD}

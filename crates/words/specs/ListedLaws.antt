@@ -1,4 +1,4 @@
--- Facts on words in a list, which the source of a list rests on. Assumes nothing.
+-- Facts on words in a list, which the source of a list rests on.
 use mathlib.Core.Path.{_≡_}
 use mathlib.Core.List.{List}
 use mathlib.Core.Logic.{inl, inr}

@@ -1,4 +1,4 @@
--- Generators of words from a seed. Assumes nothing.
+-- Generators of words from a seed.
 use mathlib.Core.Path.{_≡_}
 use Prim.Native.Nat.{ℕ, suc, _-_}
 use native.Mathlib.Omega.{arith}

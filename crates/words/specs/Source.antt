@@ -1,4 +1,4 @@
--- A source of words, by what it will give. Assumes nothing.
+-- A source of words, by what it will give.
 use mathlib.Core.Path.{_≡_}
 use Prim.Native.Nat.{ℕ, _+_, _^_, _<_, _≤_}
 use Rattle.std.specs.declared.option.Option.{Option}

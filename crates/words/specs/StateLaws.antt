@@ -1,4 +1,4 @@
--- Facts on the states of the Park-Miller generator, which its source rests on. Assumes nothing.
+-- Facts on the states of the Park-Miller generator, which its source rests on.
 use mathlib.Core.Path.{_≡_}
 use mathlib.Core.Logic.{inl, inr}
 use Prim.Native.Nat.{ℕ, zero, suc, _+_, _*_, _-_, _/_, _<_}

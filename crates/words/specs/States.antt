@@ -1,4 +1,4 @@
--- The states of the Park-Miller generator. Assumes nothing.
+-- The states of the Park-Miller generator.
 use Prim.Native.Nat.{ℕ, zero, suc, _*_, _%_, _≤_}
 
 -- A seed or a state is from 1 to 2,147,483,646.

@@ -5,7 +5,7 @@ use crate::source::WordSource;
 use terms::Fault;
 
 // The most words that one drawing reads.
-const MOST_WORDS: u8 = 64;
+const MAX_WORDS: u8 = 64;
 
 // Words at or above the greatest multiple of `bound` within the span are rejected, so that each
 // number comes from equally many words; the first other word gives the number.
@@ -19,7 +19,7 @@ pub fn draw_below<W: WordSource>(words: &mut W, bound: u64) -> Result<u32, Fault
         return Err(Fault::BoundOutOfRange);
     }
     let limit = span / bound * bound;
-    for read in 0..MOST_WORDS {
+    for read in 0..MAX_WORDS {
         let Some(word) = words.next_word() else {
             return Err(Fault::WordsEnded(read));
         };

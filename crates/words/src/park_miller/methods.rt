@@ -9,13 +9,13 @@ const MULTIPLIER: u64 = 16_807;
 // A prime, so no state ever comes to 0.
 const MODULUS: u64 = 2_147_483_647;
 
-const GREATEST_STATE: u32 = 2_147_483_646;
+const MAX_STATE: u32 = 2_147_483_646;
 
 impl ParkMiller {
     pub fn new(seed: u32) -> Result<ParkMiller, Fault>
         ensures { λ r. ⌜ Seeded seed r ⌝ }
     {
-        if seed == 0 || seed > GREATEST_STATE {
+        if seed == 0 || seed > MAX_STATE {
             return Err(Fault::SeedOutOfRange);
         }
         Ok(ParkMiller { state: seed })
@@ -27,7 +27,7 @@ pub impl WordSource for ParkMiller as ParkMillerSource {
 
     // States are from 1 on and words from 0, so there are as many words as states.
     fn span(&self) -> u64 {
-        GREATEST_STATE as u64
+        MAX_STATE as u64
     }
 
     fn next_word(&mut self) -> Option<u32> {

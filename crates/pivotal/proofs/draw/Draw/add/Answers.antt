@@ -42,7 +42,7 @@ pub ghost-self : need.ghost-self
 ghost-self g c =
     let self = c .args .self .now in
     let small = g .S·Structure .meaning (self .structure) .few-units in
-    (omega (arith, small, c .push .ensures .high-bound), (measured-after _ (vec-items (self .table .records)) _ _ (self .measured) (omega arith) (c .if-measure-gt-MOST-MEASURE .left) (c .push .ensures .items), tt))
+    (omega (arith, small, c .push .ensures .high-bound), (measured-after _ (vec-items (self .table .records)) _ _ (self .measured) (omega arith) (c .if-measure-gt-MAX-MEASURE .left) (c .push .ensures .items), tt))
 
 pub returns-in-Break-push : need.returns-in-Break-push
 returns-in-Break-push g c =
@@ -51,7 +51,7 @@ returns-in-Break-push g c =
     let p = err-from-errBy (c .from-residual .result) (c .from-residual .ensures .1) in
     record {
       added = subst (Added (g .S·Structure .meaning (self .structure)) (register (self .table)) (c .args .measure) _) (sym (p .1))
-          (Added.no-memory (addable _ _ _ (none-from _ (sym (c .if-is-some .ensures tt))) (omega arith) (c .if-measure-eq0 .left) (c .if-measure-gt-MOST-MEASURE .left)) (ap tells (p .2)) (same-register (c .in-Break-push .ensures tt .items) refl));
+          (Added.no-memory (addable _ _ _ (none-from _ (sym (c .if-is-some .ensures tt))) (omega arith) (c .if-measure-eq0 .left) (c .if-measure-gt-MAX-MEASURE .left)) (p .2) (same-register (c .in-Break-push .ensures tt .items) refl));
       memory = rw (p .1) (λ _. c .in-Break-push .ensures tt .cases);
       same-structure = refl;
     }
@@ -62,7 +62,7 @@ returns g c =
     let v = self .table .records .ok .0 in
     let none = none-from _ (sym (c .if-is-some .ensures tt)) in
     record {
-      added = Added.added (addable _ _ _ none (omega arith) (c .if-measure-eq0 .left) (c .if-measure-gt-MOST-MEASURE .left)) (omega arith) (same-register (c .in-Continue-push .ensures tt .items) none);
+      added = Added.added (addable _ _ _ none (omega arith) (c .if-measure-eq0 .left) (c .if-measure-gt-MAX-MEASURE .left)) (omega arith) (same-register (c .in-Continue-push .ensures tt .items) none);
       memory = tt;
       same-structure = refl;
     }
