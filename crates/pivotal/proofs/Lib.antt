@@ -1,5 +1,6 @@
 pub mod CertainUnits
 pub mod Chances
+pub mod Evenness
 pub mod Choices
 pub mod Marks
 pub mod OneRoll

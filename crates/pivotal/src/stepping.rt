@@ -3,7 +3,7 @@ ghost use mathlib.Core.Path.{_≡_};
 ghost use mathlib.Core.Bool.{true};
 ghost use Prim.Native.Nat.{_-_};
 ghost use Rattle.pivotal.specs.Register.{opened, presents, register, Measured};
-ghost use Rattle.pivotal.specs.Settling.{Residue-settles};
+ghost use Rattle.pivotal.specs.Settling.{Residue-settles, Settling-is-even};
 ghost use Rattle.pivotal.specs.Stepping.{Settles, Stepped};
 ghost use Rattle.std.specs.Of.Vec.{vec-items, vec-len};
 ghost use Rattle.std.specs.declared.option.Option.the-variants.{Some, None};
@@ -89,6 +89,7 @@ impl<S: Structure> Draw<S> {
     pub fn step<W: WordSource>(&mut self, words: &mut W) -> Result<StepRecord, Fault>
         ensures stepped { λ r. ⌜ Stepped (S·Structure .meaning (now (self .entry) .structure)) (register (now (self .entry) .table)) (W·WordSource .source (now (words .entry))) (register (now (self .exit) .table)) (W·WordSource .source (now (words .exit))) r ⌝ }
         ensures residue { λ _. ⌜ Residue-settles ⌝ }
+        ensures even { λ _. ⌜ Settling-is-even ⌝ }
         ensures same_structure { λ _. ⌜ now (self .exit) .structure ≡ now (self .entry) .structure ⌝ }
     {
         let Some(denominator) = self.table.denominator else {

@@ -1,15 +1,16 @@
 use mathlib.Core.Path.{refl}
 use Rattle.words.proofs.Passing.{past-none}
 use Rattle.pivotal.proofs.Choices.{chosen, pair-open}
+use Rattle.pivotal.proofs.Evenness.{settling-is-even}
 use Rattle.pivotal.proofs.Settled.{residue-settles}
 use Rattle.pivotal.proofs.draw.Draw.step.Needs as need
 use Rattle.pivotal.specs.Stepping.{Faces, Stepped}
 
 pub returns-in-rest : need.returns-in-rest
-returns-in-rest g c = record { stepped = Stepped.not-set (c .in-rest .is) refl refl (past-none (g .W·WordSource .source (c .args .words .now))); residue = residue-settles; same-structure = refl }
+returns-in-rest g c = record { stepped = Stepped.not-set (c .in-rest .is) refl refl (past-none (g .W·WordSource .source (c .args .words .now))); residue = residue-settles; even = settling-is-even; same-structure = refl }
 
 pub returns-in-rest-lowest-open : need.returns-in-rest-lowest-open
-returns-in-rest-lowest-open g c = record { stepped = Stepped.nothing-open (c .in-Some .is) (c .in-rest-lowest-open .ensures tt) refl refl (past-none (g .W·WordSource .source (c .args .words .now))); residue = residue-settles; same-structure = refl }
+returns-in-rest-lowest-open g c = record { stepped = Stepped.nothing-open (c .in-Some .is) (c .in-rest-lowest-open .ensures tt) refl refl (past-none (g .W·WordSource .source (c .args .words .now))); residue = residue-settles; even = settling-is-even; same-structure = refl }
 
 pub returns-in-rest-choice : need.returns-in-rest-choice
 returns-in-rest-choice g c =
@@ -19,6 +20,7 @@ returns-in-rest-choice g c =
     record {
       stepped = Stepped.faced (c .in-Some .is) (Faces.alone none (c .in-Some-lowest-open .ensures tt)) (c .settle-alone .ensures .same-over) (c .settle-alone .ensures .settles);
       residue = residue-settles;
+      even = settling-is-even;
       same-structure = refl;
     }
 
@@ -39,5 +41,6 @@ returns g c =
     record {
       stepped = Stepped.faced (c .in-Some .is) (Faces.pair some) (c .settle-pair .ensures .same-over) (c .settle-pair .ensures .settles);
       residue = residue-settles;
+      even = settling-is-even;
       same-structure = refl;
     }
