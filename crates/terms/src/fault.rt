@@ -1,6 +1,10 @@
 // Why a call was refused. What each case tells, its number and its place, is one definition in
 // specs/Faults.antt; promises about refusals are made through it.
+ghost use lib.Chars.{codes};
+ghost use mathlib.Core.List.{_++_};
 ghost use mathlib.Core.Path.{_≡_};
+ghost use Rattle.std.specs.Written.{decimal};
+ghost use Rattle.std.specs.declared.option.Option.the-variants.{Some};
 ghost use Rattle.terms.specs.Faults.{tells};
 use crate::numbers::NodeNo;
 use crate::numbers::NodeNoDebug;
@@ -127,6 +131,8 @@ impl Fault {
 
 // As a keeper reads it in a log.
 pub impl fmt::Display for Fault as FaultDisplay {
+    ghost shown = { λ fault. Some (codes "refusal " ++ (decimal (tells fault .0) ++ (codes " at " ++ decimal (tells fault .1)))) };
+
     fn fmt<W: fmt::Write>(&self, f: &mut fmt::Formatter<W>) -> fmt::Result {
         let number = self.number();
         let place = self.place();
