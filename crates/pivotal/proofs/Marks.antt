@@ -13,10 +13,14 @@ use Rattle.std.proofs.shelf.Lists.{getD-set-same, getD-set-other, getD-replicat
 use Rattle.std.proofs.shelf.Tests.{cases-lt}
 
 -- whether a byte marks
-abbrev pub marks : List ℕ → ℕ → Bool
-marks bytes k = not (eqb (getD bytes k 0) 0)
+abbrev is-mark : ℕ → Bool
+is-mark byte = not (eqb byte 0)
 
-byte-marks : (b : Bool) → not (eqb (boolByte b) 0) ≡ b
+-- which bytes of a list mark
+abbrev pub marks : List ℕ → ℕ → Bool
+marks bytes k = is-mark (getD bytes k 0)
+
+byte-marks : (b : Bool) → is-mark (boolByte b) ≡ b
 byte-marks true = refl
 byte-marks false = refl
 
@@ -30,12 +34,9 @@ pub record Written (test : ℕ → Bool) (bytes : List ℕ) (i : ℕ) : Type 0 w
 pub written-more : (test : ℕ → Bool) (bytes : List ℕ) (i : ℕ) (b : Bool) → i < 1024 → Written test bytes i → b ≡ test i → Written test (set bytes i (boolByte b)) (i + 1)
 written-more test bytes i b h old e = record {
   long = length-set bytes i (boolByte b) ∙ old .long;
-  before = below-more _ _ (λ k l. ap marked-byte (getD-set-other bytes i k (boolByte b) 0 (omega arith)) ∙ old .before k l) (ap marked-byte (getD-set-same bytes i (boolByte b) 0 (omega (arith, old .long))) ∙ byte-marks b ∙ e);
+  before = below-more _ _ (λ k l. ap is-mark (getD-set-other bytes i k (boolByte b) 0 (omega arith)) ∙ old .before k l) (ap is-mark (getD-set-same bytes i (boolByte b) 0 (omega (arith, old .long))) ∙ byte-marks b ∙ e);
   after = λ k l. getD-set-other bytes i k (boolByte b) 0 (omega arith) ∙ old .after k (omega arith);
 }
-  where
-    marked-byte : ℕ → Bool
-    marked-byte v = not (eqb v 0)
 
 zeros : (n k : ℕ) → _≡_ {A = ℕ} (getD (replicate n 0) k 0) 0
 zeros n k = elim (cases-lt k n) [ inl l ↦ getD-replicate n k 0 0 l | inr l ↦ getD-past (replicate n 0) k 0 (omega (arith, length-replicate {A = ℕ} n 0)) ]
@@ -47,4 +48,4 @@ written-none test = record { long = length-replicate {A = ℕ} 1024 0; before = 
 -- all written, and the test fails past them
 pub written-all : (test : ℕ → Bool) (bytes : List ℕ) (i : ℕ) → Written test bytes i → ((k : ℕ) → i ≤ k → test k ≡ false) → (k : ℕ) → marks bytes k ≡ test k
 written-all test bytes i old none k =
-    elim (cases-lt k i) [ inl l ↦ old .before k l | inr l ↦ ap (λ v. not (eqb v 0)) (old .after k l) ∙ sym (none k l) ]
+    elim (cases-lt k i) [ inl l ↦ old .before k l | inr l ↦ ap is-mark (old .after k l) ∙ sym (none k l) ]

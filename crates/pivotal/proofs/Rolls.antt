@@ -38,15 +38,15 @@ pub numbers-more-no : (D : ℕ) (rows : List UnitRecord) (n : ℕ) → drawn D r
 numbers-more-no D rows n e = rw add-one (ap (λ xs. drawn-numbers D rows n ++ xs) (cond-false (drawn D rows n) (n ∷ []) [] e) ∙ append-nil _)
 
 -- xs are the numbers below n that pass the test, each once, rising.
-record Passing (test : ℕ → Bool) (n : ℕ) (xs : List ℕ) : Type 0 where
+record Listing (test : ℕ → Bool) (n : ℕ) (xs : List ℕ) : Type 0 where
   below : (k : ℕ) → k < length xs → getD xs k 0 < n
   rising : (k : ℕ) → k + 1 < length xs → getD xs k 0 < getD xs (k + 1) 0
   passes : (k : ℕ) → k < length xs → test (getD xs k 0) ≡ true
   all : (i : ℕ) → i < n → test i ≡ true → (k : ℕ) × (k < length xs) × (getD xs k 0 ≡ i)
 
 -- no number yet
-passing-none : (test : ℕ → Bool) → Passing test 0 []
-passing-none test = record {
+listing-none : (test : ℕ → Bool) → Listing test 0 []
+listing-none test = record {
   below = λ k h. absurd (omega arith);
   rising = λ k h. absurd (omega arith);
   passes = λ k h. absurd (omega arith);
@@ -54,8 +54,8 @@ passing-none test = record {
 }
 
 -- one more number, which fails the test
-passing-no : (test : ℕ → Bool) (n : ℕ) (xs : List ℕ) → test n ≡ false → Passing test n xs → Passing test (n + 1) xs
-passing-no test n xs e old = record {
+listing-no : (test : ℕ → Bool) (n : ℕ) (xs : List ℕ) → test n ≡ false → Listing test n xs → Listing test (n + 1) xs
+listing-no test n xs e old = record {
   below = λ k h. omega (arith, old .below k h);
   rising = old .rising;
   passes = old .passes;
@@ -66,8 +66,8 @@ passing-no test n xs e old = record {
     same i h l = omega arith
 
 -- one more number, which passes it
-passing-yes : (test : ℕ → Bool) (n : ℕ) (xs : List ℕ) → test n ≡ true → Passing test n xs → Passing test (n + 1) (xs ++ n ∷ [])
-passing-yes test n xs e old = record {
+listing-yes : (test : ℕ → Bool) (n : ℕ) (xs : List ℕ) → test n ≡ true → Listing test n xs → Listing test (n + 1) (xs ++ n ∷ [])
+listing-yes test n xs e old = record {
   below = λ k h. elim (cases-lt k (length xs)) [
     | inl l ↦ omega (arith, front k l, old .below k l)
     | inr l ↦ omega (arith, last k h l)
@@ -95,20 +95,20 @@ passing-yes test n xs e old = record {
     last : (k : ℕ) → k < length (xs ++ n ∷ []) → length xs ≤ k → getD (xs ++ n ∷ []) k 0 ≡ n
     last k h l = getD-push xs n 0 k (omega (arith, long))
 
--- so the drawn units pass for being drawn
-passing-numbers : (D : ℕ) (rows : List UnitRecord) (n : ℕ) → Passing (drawn D rows) n (drawn-numbers D rows n)
-passing-numbers D rows zero = passing-none _
-passing-numbers D rows (suc n) =
-    let old = passing-numbers D rows n in
-    subst (λ m. Passing (drawn D rows) m (drawn-numbers D rows m)) (add-one n) (elim (cases-bool (drawn D rows n)) [
-      | inl e ↦ subst (Passing (drawn D rows) (n + 1)) (sym (numbers-more-yes D rows n e)) (passing-yes _ n _ e old)
-      | inr e ↦ subst (Passing (drawn D rows) (n + 1)) (sym (numbers-more-no D rows n e)) (passing-no _ n _ e old)
+-- so it is with the drawn units
+listing-numbers : (D : ℕ) (rows : List UnitRecord) (n : ℕ) → Listing (drawn D rows) n (drawn-numbers D rows n)
+listing-numbers D rows zero = listing-none _
+listing-numbers D rows (suc n) =
+    let old = listing-numbers D rows n in
+    subst (λ m. Listing (drawn D rows) m (drawn-numbers D rows m)) (add-one n) (elim (cases-bool (drawn D rows n)) [
+      | inl e ↦ subst (Listing (drawn D rows) (n + 1)) (sym (numbers-more-yes D rows n e)) (listing-yes _ n _ e old)
+      | inr e ↦ subst (Listing (drawn D rows) (n + 1)) (sym (numbers-more-no D rows n e)) (listing-no _ n _ e old)
     ])
 
 -- all of them are the roll
 pub roll-numbers : (D : ℕ) (rows : List UnitRecord) → Roll D rows (drawn-numbers D rows (length rows))
 roll-numbers D rows =
-    let all = passing-numbers D rows (length rows) in
+    let all = listing-numbers D rows (length rows) in
     record { rising = all .rising; only-drawn = all .passes; all-drawn = λ i e. all .all i (ltb-true _ _ (and-parts _ _ e .0)) e }
 
 -- one more unit adds 1 to the count if it is drawn
@@ -148,10 +148,6 @@ length-roll D rows = length-numbers D rows (length rows) (omega arith) ∙ ap (d
 pub record Front (D : ℕ) (rows : List UnitRecord) (list list′ : List ℕ) (n many : ℕ) : Type 0 where
   pub many-is : many ≡ length (drawn-numbers D rows n)
   pub list-is : list′ ≡ drawn-numbers D rows n ++ drop many list
-
--- nothing is written yet
-pub front-none : (D : ℕ) (rows : List UnitRecord) (list : List ℕ) → Front D rows list list 0 0
-front-none D rows list = record { many-is = refl; list-is = refl }
 
 -- there is a place for the number of one more drawn unit
 pub front-room : {D : ℕ} {rows : List UnitRecord} {list list′ : List ℕ} {n many : ℕ} → Front D rows list list′ n many → drawn-count D rows ≤ length list → n < length rows → drawn D rows n ≡ true → many < length list

@@ -7,12 +7,9 @@ use borrow.Author.Count.{below-more}
 use lib.ListN.{length, getD, set}
 use Rattle.std.proofs.shelf.Lists.{getD-set-same, getD-set-other, length-set}
 use Rattle.pivotal.specs.Register.{Measured, blank, measures}
-use Rattle.pivotal.specs.Setting.{Started}
+use Rattle.pivotal.specs.Setting.{Started, begun}
+use Rattle.pivotal.proofs.Rows.{Takeable}
 use Rattle.pivotal.specs.declared.table.UnitRecord.{UnitRecord}
-
--- A unit with this measure and this numerator, as a setting leaves it.
-abbrev pub begun : ℕ → ℕ → UnitRecord
-begun measure given = record { measure = measure; start = given; present = given }
 
 -- The first i units have the numerators given, and the others are as before.
 pub record Starting (rows : List UnitRecord) (given : ℕ → ℕ) (rows′ : List UnitRecord) (i : ℕ) : Type 0 where
@@ -59,4 +56,4 @@ started-same {rows} same s = record { same-units = s .same-units; each = λ i l.
 pub started-measured : {rows rows′ : List UnitRecord} {given : ℕ → ℕ} → Started rows given rows′ → Measured rows → Measured rows′
 started-measured s h i l =
     let within = rw (s .same-units) at l in
-    subst (λ (unit : UnitRecord). (1 ≤ unit .measure) × (unit .measure ≤ 1000000)) (sym (s .each i within)) (h i within)
+    subst Takeable (sym (s .each i within)) (h i within)

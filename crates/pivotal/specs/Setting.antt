@@ -14,10 +14,14 @@ use Rattle.pivotal.specs.Certain.{Certain, denominator, numerator}
 use Rattle.pivotal.specs.Register.{Register, blank, measures}
 use Rattle.pivotal.specs.declared.table.UnitRecord.{UnitRecord}
 
+-- A unit with this measure and this numerator, as a setting leaves it.
+abbrev pub begun : ℕ → ℕ → UnitRecord
+begun measure given = record { measure = measure; start = given; present = given }
+
 -- rows′ are the rows once unit i has the start and the present numerator `given i`, and its measure as before.
 pub record Started (rows : List UnitRecord) (given : ℕ → ℕ) (rows′ : List UnitRecord) : Type 0 where
   pub same-units : length rows′ ≡ length rows
-  pub each : (i : ℕ) → i < length rows → getD rows′ i blank ≡ record { measure = measures rows i; start = given i; present = given i }
+  pub each : (i : ℕ) → i < length rows → getD rows′ i blank ≡ begun (measures rows i) (given i)
 
 -- Setting R by the size k leaves R′ and has this answer.
 pub data Sized (M : Meaning) (R : Register) (k : ℕ) (R′ : Register) : Result (Unit {0}) Fault → Type 0 where

@@ -10,27 +10,26 @@ use structures::Structure;
 use terms::FaultError;
 use terms::UnitNo;
 
-// Whose roll it is, and each gate with its cost and the numerator that it starts from. A gate that
-// is sure to be drawn has the whole denominator.
+// Whose roll it is, and each gate with its cost and the numerator that it starts from. The costliest
+// gate of this canal is sure to be drawn, so its numerator is the denominator of all.
 pub(crate) fn print_register<S: Structure>(
     rt: &impl Print,
     draw: &Draw<S>,
 ) -> Result<(), AnyError> {
-    println!(
-        rt,
-        "{NAME}: {SIZE} of {} structures, seed {SEED}",
-        GATES.len()
-    )?;
+    println!(rt, "{NAME}: {SIZE} of {} gates, seed {SEED}", GATES.len())?;
     println!(rt, "")?;
-    println!(rt, "unit      cost  numerator  structure")?;
+    println!(rt, "unit      cost  numerator  name")?;
+    let mut denominator = 0;
     for (i, gate) in GATES.iter().enumerate() {
         let unit = draw.unit(UnitNo(i as u16))?;
+        denominator = denominator.max(unit.start);
         println!(
             rt,
             "{i:>4}  {:>8}  {:>9}  {}",
             unit.measure, unit.start, gate.name
         )?;
     }
+    println!(rt, "each over {denominator}")?;
     println!(rt, "")?;
     Ok(())
 }
