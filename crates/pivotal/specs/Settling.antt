@@ -6,10 +6,10 @@ use Prim.Native.Nat.{ℕ, _+_, _-_, _*_, _≤_}
 use lib.Dec.{ltb}
 use Rattle.pivotal.specs.declared.settling.Settling.{Settling}
 
--- How units with the numerators a and b over D settle: of `bound` numbers the first `firsts`
--- settle them the first way, and the others the second way. Together the units have a + b: below D one of them takes it all; from D on one of them
--- takes D, and the other what is left. A unit that is open alone settles against what it lacks of D,
--- which is no unit's: b is then D - a, the bound is D, and the unit gets D or 0.
+-- How units with the numerators a and b over D settle. There are `bound` numbers; those below `firsts` lead
+-- to the outcome `first`, the others to `second`. Together the units have a + b: below D one of them takes it
+-- all; from D on one of them takes D, and the other what is left. A unit that is open alone settles against
+-- what it lacks of D, which is no unit's: b is then D - a.
 abbrev pub settling : ℕ → ℕ → ℕ → Settling
 settling D a b = cond (ltb (a + b) D)
     (record { bound = a + b; firsts = a; first = (a + b, 0); second = (0, a + b) })

@@ -25,7 +25,7 @@ abbrev pub marked-open : Meaning → ℕ → List UnitRecord → Units
 marked-open M D rows i = ltb i (M .units) && opened D rows i
 
 -- What a step faces: its first unit, its second if there is one, and the numerator that the first
--- settles against. The pair is the structure's choice; without one the lowest open unit is left alone.
+-- settles against. The structure chooses the pair; if it has none, the lowest open unit settles alone.
 pub data Faces (M : Meaning) (D : ℕ) (rows : List UnitRecord) : ℕ → Option ℕ → ℕ → Type 0 where
   pair : {i j : ℕ} → M .choice (marked-open M D rows) ≡ Some (i, j) → Faces M D rows i (Some j) (presents rows j)
   alone : {i : ℕ} → M .choice (marked-open M D rows) ≡ None → Lowest-open D rows i → Faces M D rows i None (D - presents rows i)

@@ -1,4 +1,4 @@
-// Pivotal draws: each unit's chance follows its measure, and each range gets its share.
+// Pivotal draws from a register of units with unequal chances.
 mod draw;
 mod questions;
 mod setting;

@@ -18,7 +18,7 @@ impl<S> Draw<S> {
         ensures { λ r. ⌜ Told-unit (register (now (self .entry) .table)) (unit .0) r ⌝ }
     {
         if self.table.denominator.is_none() {
-            return Err(Fault::NotSet); // also where there is no such unit
+            return Err(Fault::NotSet); // before the number is looked at
         }
         let Some(record) = self.table.records.get(unit.0 as usize) else {
             return Err(Fault::NumberTooHigh);

@@ -1,4 +1,4 @@
-// The table of units, which lends one record at a time to be changed.
+// The table of units. A write to it goes through a loan of a single record.
 ghost use denote.Follow.{follows};
 ghost use denote.Ref.{name};
 ghost use ghost.Atoms.{sem};

@@ -165,7 +165,7 @@ fn words_that_run_out(rt: LibcRuntime) -> Result<(), Fail> {
     let step = draw.step(&mut words)?;
     check_eq((step.bound, step.number), (60, 40))?;
     check_presents(&draw, &[0, 60, 60, 80, 100])?;
-    // Of 120 over 100 the units settle 80, which is above the span.
+    // 60 and 60 over 100 have the bound 80, above the span of 60.
     check_refused(draw.step(&mut words), 7, 0)?;
     words.fill(81, &[80])?;
     check_refused(draw.step(&mut words), 8, 1)?;

@@ -36,7 +36,7 @@ up-to-pairing n J a b e q apart c marked not-a not-b = let p = pair-from-some J 
       | inr free ↦ free
     ]
 
--- The line of n units: n ranges, and the choice is the two lowest-numbered marked units.
+-- The line of n units: n ranges, and the marked units with the two smallest numbers are the pair.
 abbrev pub line : (n : ℕ) → n ≤ 1024 → Meaning
 line n few = record {
   units = n;

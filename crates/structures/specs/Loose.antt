@@ -8,7 +8,7 @@ use Rattle.structures.specs.Meaning.{Meaning}
 use Rattle.structures.specs.Lowest.{two-lowest}
 use Rattle.structures.specs.LowestLaws.{none-from-few, few-from-none, names-two}
 
--- The loose structure of n units: no range, and the choice is the two lowest-numbered marked units.
+-- The loose structure of n units: no range, and the marked units with the two smallest numbers are the pair.
 abbrev pub loose : (n : ℕ) → n ≤ 1024 → Meaning
 loose n few = record {
   units = n;

@@ -1,4 +1,4 @@
--- What a structure over the register means, and the laws that make drawing over it fair.
+-- What a structure over the register means, and the laws that it keeps.
 use mathlib.Core.Path.{_≡_}
 use mathlib.Core.Bool.{Bool, true, false}
 use Prim.Native.Nat.{ℕ, _^_, _<_, _≤_}
@@ -10,7 +10,7 @@ use Rattle.terms.specs.Counts.{count, Within}
 abbrev pub Units : Type 0
 Units = ℕ → Bool
 
--- How many units there are, a numbered list of ranges, and a pair for every set of marked units.
+-- The number of units, the ranges by number, and which pair settles when a set of units is marked.
 pub record Meaning : Type 0 where
   pub units : ℕ
   pub ranges : ℕ
@@ -20,11 +20,11 @@ pub record Meaning : Type 0 where
   pub few-ranges : ranges < 2 ^ 32
   -- a range outside the numbers is empty, and none reaches past the units
   pub inside : (q i : ℕ) → range q i ≡ true → (q < ranges) × (i < units)
-  -- the choice is none exactly when fewer than two units are marked
+  -- there is a pair if and only if at least two units are marked
   pub none-from-few : (J : Units) → Within units J → count J units < 2 → choice J ≡ None
   pub few-from-none : (J : Units) → Within units J → choice J ≡ None → count J units < 2
-  -- otherwise it names two different marked units
+  -- its units are marked, and distinct
   pub names-marked : (J : Units) → Within units J → (a b : ℕ) → choice J ≡ Some (a, b) → (J a ≡ true) × (J b ≡ true) × (a ≡ b → ⊥)
-  -- the pairing law: a range that holds exactly one of the two holds no other marked unit
+  -- pairing: where a range splits the pair, no third marked unit is in that range
   pub pairing : (J : Units) → Within units J → (a b : ℕ) → choice J ≡ Some (a, b) → (q : ℕ) → (range q a ≡ range q b → ⊥) →
       (c : ℕ) → J c ≡ true → (c ≡ a → ⊥) → (c ≡ b → ⊥) → range q c ≡ false

@@ -1,4 +1,4 @@
-// Units in a row, as gates along a canal: every stretch from the first unit on keeps its share.
+// Units in a row, as gates along a canal: the ranges are the stretches from the first unit on.
 ghost use mathlib.Core.Path.{_≡_};
 ghost use Prim.Native.Nat.{_<_, _≤_};
 ghost use Rattle.std.specs.Results.{Cases};

@@ -14,7 +14,8 @@ pub trait Structure {
         ensures { λ r. ⌜ r ≡ meaning (now (self .entry)) .units ⌝ };
 
     // The two units to settle next among the marked ones, or none where fewer than two are marked.
-    // A unit is marked by any byte but 0; missing bytes count as 0, and bytes past the units are not read.
+    // A byte other than 0 marks its unit. A list that is too short marks no more, and the rest of one
+    // that is too long is ignored.
     fn choice(&self, marks: &[u8]) -> Option<(UnitNo, UnitNo)>
         ensures { λ r. ⌜ named r ≡ meaning (now (self .entry)) .choice (marked (meaning (now (self .entry)) .units) (now (marks .entry))) ⌝ };
 }

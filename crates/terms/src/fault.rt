@@ -29,7 +29,8 @@ pub enum Fault {
     UnitsMissing(u16),
     // The size is 0 or above the number of units.
     SizeOutOfRange,
-    // The denominator is 0, above 1,000,000,000 or below a measure: the first such unit, if any.
+    // The denominator is not from 1 to 1,000,000,000, or the measure of this unit, the first such,
+    // exceeds it.
     DenominatorOutOfRange(Option<UnitNo>),
     // The bound is 0 or above the span of the words.
     BoundOutOfRange,

@@ -1,4 +1,4 @@
-// The terms that every layer shares: numbers that are never taken for one another, and faults.
+// The terms that every layer shares: numbers of four kinds, which do not mix, and faults.
 mod fault;
 mod numbers;
 

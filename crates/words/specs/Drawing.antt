@@ -12,7 +12,7 @@ use Rattle.terms.specs.Faults.{tells}
 use Rattle.terms.specs.declared.fault.Fault.{Fault}
 use Rattle.words.specs.Source.{Source, Past}
 
--- The greatest multiple of m that is at most the span: words from here on are rejected.
+-- The largest multiple of m within the span: a word that reaches it is rejected.
 abbrev pub limit : ℕ → ℕ → ℕ
 limit span m = span / m * m
 
@@ -37,6 +37,6 @@ pub record Greatest-multiple (span m : ℕ) : Type 0 where
   pub within : limit span m ≤ span
   pub greatest : (q : ℕ) → q * m ≤ span → q * m ≤ limit span m
 
--- Of the words below the span that are not rejected, each number below m comes from equally many.
+-- Each remainder modulo m is given by equally many of the words below the limit.
 pub record Even-handed (span m : ℕ) : Type 0 where
   pub each : (r : ℕ) → r < m → count (λ w. ltb w (limit span m) && eqb (w % m) r) span ≡ span / m

@@ -4,7 +4,7 @@ use Prim.Native.Nat.{ℕ, _+_, _^_, _<_, _≤_}
 use Rattle.std.specs.declared.option.Option.{Option}
 use Rattle.std.specs.declared.option.Option.the-variants.{Some, None}
 
--- A span, and the words still to come, perhaps without end, each below the span.
+-- A finite or endless sequence of words, all smaller than the span.
 pub record Source : Type 0 where
   pub span : ℕ
   -- the word that the asking after i others will get
