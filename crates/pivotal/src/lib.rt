@@ -1,4 +1,6 @@
 // Pivotal draws from a register of units with unequal chances.
+#![tactic(auto)]
+
 mod draw;
 mod questions;
 mod setting;

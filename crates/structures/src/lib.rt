@@ -1,4 +1,6 @@
 // Structures over a register: which units are paired, and whose shares are kept.
+#![tactic(auto)]
+
 mod limits;
 mod line;
 mod loose;

@@ -1,4 +1,6 @@
 // The terms that every layer shares: numbers of four kinds, which do not mix, and faults.
+#![tactic(auto)]
+
 mod fault;
 mod numbers;
 

@@ -1,4 +1,6 @@
 // Draws a year's inspection roll for a canal from start to finish, and prints each action.
+#![tactic(auto)]
+
 mod canal;
 mod journal;
 

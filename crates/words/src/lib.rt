@@ -1,4 +1,6 @@
 // Random words and the numbers drawn from them.
+#![tactic(auto)]
+
 mod drawing;
 mod park_miller;
 mod source;

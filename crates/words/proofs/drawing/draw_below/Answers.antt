@@ -14,12 +14,12 @@ returns-then-bound-eq0 g c =
       even = even_handed _ _;
     }
 
-pub returns-in-default : goal.returns-in-default
-returns-in-default g c =
+pub returns-in_default : goal.returns-in_default
+returns-in_default g c =
     record {
       drawn = words_ended (omega arith) (omega arith) c.loop-read-test.true c.loop-read.invariant.1
-          (asked_after c.loop-read.invariant.0 c.in-default.ensures.asked) refl
-          (past_no_word c.loop-read.invariant.0 c.in-default.ensures.asked);
+          (asked_after c.loop-read.invariant.0 c.in_default.ensures.asked) refl
+          (past_no_word c.loop-read.invariant.0 c.in_default.ensures.asked);
       greatest = greatest_multiple _ _;
       even = even_handed _ _;
     }

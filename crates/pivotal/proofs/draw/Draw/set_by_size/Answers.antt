@@ -8,16 +8,16 @@ use Rattle.pivotal.proofs.draw.Draw.set_by_size.Goals as goal
 use Rattle.pivotal.proofs.draw.Draw.set_by_size.Goals.{then-size-eq0-via-then-size-eq0, then-size-eq0-via-else-size-eq0+then-size-added}
 use Rattle.pivotal.specs.Setting.{Sized}
 
-pub returns-then-is-some : goal.returns-then-is-some
-returns-then-is-some g c =
-    let s = some_from c.args.self.now.table.denominator (sym c.if-is-some.ensures) in
+pub returns-then-is_some : goal.returns-then-is_some
+returns-then-is_some g c =
+    let s = some_from c.args.self.now.table.denominator (sym c.if-is_some.ensures) in
     record { sized = Sized.already_set s.1 refl refl; same_structure = refl; determined = certain_units_are_determined; proper = chances_are_proper }
 
 pub returns-then-added-units : goal.returns-then-added-units
 returns-then-added-units g c =
     let v = c.args.self.now.table.records.ok.0 in
     record {
-      sized = Sized.units_missing (none_from _ (sym c.if-is-some.ensures)) (omega arith) (ap (λ n. (4, n)) (omega arith)) refl;
+      sized = Sized.units_missing (none_from _ (sym c.if-is_some.ensures)) (omega arith) (ap (λ n. (4, n)) (omega arith)) refl;
       same_structure = refl;
       determined = certain_units_are_determined;
       proper = chances_are_proper;
@@ -27,7 +27,7 @@ pub returns-then-size-eq0 : goal.returns-then-size-eq0
 returns-then-size-eq0 g c =
     let v = c.args.self.now.table.records.ok.0 in
     record {
-      sized = Sized.size_out_of_range (none_from _ (sym c.if-is-some.ensures)) (omega arith)
+      sized = Sized.size_out_of_range (none_from _ (sym c.if-is_some.ensures)) (omega arith)
           (elim c.then-size-eq0.branch [
             | then-size-eq0-via-then-size-eq0 w ↦ inl w.if-size-eq0.true
             | then-size-eq0-via-else-size-eq0+then-size-added w ↦ inr (omega (arith, w.if-size-added.true))
@@ -47,9 +47,9 @@ returns g c =
     let self = c.args.self.now in
     let v = self.table.records.ok.0 in
     let pos = positive (vec_items self.table.records) self.decreases in
-    let split = c.certain-split-split.ensures in
+    let split = c.certain_split-split.ensures in
     record {
-      sized = Sized.sized (none_from _ (sym c.if-is-some.ensures)) (omega arith) (omega arith) (omega arith) split.certain
+      sized = Sized.sized (none_from _ (sym c.if-is_some.ensures)) (omega arith) (omega arith) (omega arith) split.certain
           (c.start.ensures.over ∙ ap Some (denominator_is pos split)) (started_same (numerator_is pos split) c.start.ensures.started);
       same_structure = refl;
       determined = certain_units_are_determined;

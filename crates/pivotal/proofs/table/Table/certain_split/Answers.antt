@@ -10,10 +10,10 @@ use Rattle.pivotal.proofs.table.Table.certain_split.Goals as goal
 pub loop-found-init : goal.loop-found-init
 loop-found-init c =
     let rows = c.args.self.now.records.items in
-    subst (Reached (length rows) (measures rows) c.args.size 0) (sym c.total-measure.ensures) (reached_start _ _ _)
+    subst (Reached (length rows) (measures rows) c.args.size 0) (sym c.total_measure.ensures) (reached_start _ _ _)
 
 pub returns-then-next-found : goal.returns-then-next-found
-returns-then-next-found c = round_off c.loop-found.invariant c.split-by-next.ensures (omega (arith, c.if-next-found.true))
+returns-then-next-found c = round_off c.loop-found.invariant c.split_by-next.ensures (omega (arith, c.if-next-found.true))
 
 pub loop-found-smaller : goal.loop-found-smaller
 loop-found-smaller c =
@@ -23,9 +23,9 @@ loop-found-smaller c =
       arith,
       c.if-next-found.false,
       round_grows c.loop-found.invariant,
-      ap (λ (s : Split). s.certain) c.split-by-next.ensures,
+      ap (λ (s : Split). s.certain) c.split_by-next.ensures,
       count_le (qualifies (measures rows) (c.args.size - found.certain) found.rest) (length rows),
     )
 
 pub loop-found-preserved : goal.loop-found-preserved
-loop-found-preserved c = round_on c.loop-found.invariant c.split-by-next.ensures (positive _ c.requires.measured)
+loop-found-preserved c = round_on c.loop-found.invariant c.split_by-next.ensures (positive _ c.requires.measured)

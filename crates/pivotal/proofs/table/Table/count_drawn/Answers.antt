@@ -6,10 +6,10 @@ use Rattle.pivotal.proofs.table.Table.count_drawn.Goals as goal
 use Rattle.pivotal.specs.Questions.{drawn_count}
 
 -- the count after one more unit
-counted : (c : goal.After-is-drawn) → c.loop-record.count + bool_byte c.is-drawn.result ≡ drawn_count c.args.denominator (take (c.loop-record.record-index + 1) c.args.self.now.records.items)
+counted : (c : goal.After-is_drawn) → c.loop-record.count + bool_byte c.is_drawn.result ≡ drawn_count c.args.denominator (take (c.loop-record.record-index + 1) c.args.self.now.records.items)
 counted c =
     let v = c.args.self.now.records.ok.0 in
-    omega (arith, c.loop-record.invariant, count_more c.args.denominator c.args.self.now.records.items c.loop-record.record-index c.is-drawn.result (omega (arith, c.deref-record-items.ensures.len)) (rw c.deref-record-items.ensures.value at c.is-drawn.ensures))
+    omega (arith, c.loop-record.invariant, count_more c.args.denominator c.args.self.now.records.items c.loop-record.record-index c.is_drawn.result (omega (arith, c.deref-record-items.ensures.len)) (rw c.deref-record-items.ensures.value at c.is_drawn.ensures))
 
 pub overflow-add-count : goal.overflow-add-count
 overflow-add-count c =

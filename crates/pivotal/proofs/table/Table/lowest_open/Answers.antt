@@ -4,10 +4,10 @@ use Rattle.pivotal.proofs.Rows.{past_not_open}
 use Rattle.pivotal.proofs.table.Table.lowest_open.Goals as goal
 
 pub loop-i-preserved : goal.loop-i-preserved
-loop-i-preserved c = below_more _ _ c.loop-i.invariant (sym (rw c.deref-record-items.ensures.value at c.if-is-open.ensures))
+loop-i-preserved c = below_more _ _ c.loop-i.invariant (sym (rw c.deref-record-items.ensures.value at c.if-is_open.ensures))
 
-pub returns-then-is-open : goal.returns-then-is-open
-returns-then-is-open c = record { is_open = sym (rw c.deref-record-items.ensures.value at c.if-is-open.ensures); none_before = c.loop-i.invariant }
+pub returns-then-is_open : goal.returns-then-is_open
+returns-then-is_open c = record { is_open = sym (rw c.deref-record-items.ensures.value at c.if-is_open.ensures); none_before = c.loop-i.invariant }
 
 pub returns : goal.returns
 returns c i =

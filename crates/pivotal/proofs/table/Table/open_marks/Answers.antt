@@ -8,7 +8,7 @@ loop-i-init c = written_none _
 
 pub loop-i-preserved : goal.loop-i-preserved
 loop-i-preserved c =
-    written_more _ _ _ _ (omega (arith, c.deref-record-items.ensures.len)) c.loop-i.invariant (rw c.deref-record-items.ensures.value at c.is-open.ensures)
+    written_more _ _ _ _ (omega (arith, c.deref-record-items.ensures.len)) c.loop-i.invariant (rw c.deref-record-items.ensures.value at c.is_open.ensures)
 
 pub returns : goal.returns
 returns c =

@@ -7,11 +7,11 @@ use Rattle.pivotal.proofs.table.Table.settle_pair.Goals as goal
 use Rattle.pivotal.specs.Register.{presents, Measured}
 use Rattle.pivotal.specs.Stepping.{settled}
 
-pub present-of-a-requires : goal.present-of-a-requires
-present-of-a-requires g c = open_there c.args.self.now c.args.denominator c.args.first.0 c.requires.first-open
+pub present_of-a-requires : goal.present_of-a-requires
+present_of-a-requires g c = open_there c.args.self.now c.args.denominator c.args.first.0 c.requires.first-open
 
-pub present-of-b-requires : goal.present-of-b-requires
-present-of-b-requires g c = open_there c.args.self.now c.args.denominator c.args.second.0 c.requires.second-open
+pub present_of-b-requires : goal.present_of-b-requires
+present_of-b-requires g c = open_there c.args.self.now c.args.denominator c.args.second.0 c.requires.second-open
 
 pub settle-settling-requires : goal.settle-settling-requires
 settle-settling-requires g c =
@@ -22,24 +22,24 @@ settle-settling-requires g c =
       b_within = omega (arith, (open_below D (presents rows c.args.second.0) c.requires.second-open).1);
     }
 
-pub returns-in-err-number : goal.returns-in-err-number
-returns-in-err-number g c =
+pub returns-in_err-number : goal.returns-in_err-number
+returns-in_err-number g c =
     let D = c.args.denominator in
     let rows = c.args.self.now.records.items in
-    let e = rw (c.present-of-a.ensures, c.present-of-b.ensures) at c.settle-settling.ensures in
-    let p = err_from_is_err_and c.from-residual.result c.from-residual.ensures.1 in
+    let e = rw (c.present_of-a.ensures, c.present_of-b.ensures) at c.settle-settling.ensures in
+    let p = err_from_is_err_and c.from_residual.result c.from_residual.ensures.1 in
     record {
-      settles = rw (p.1, p.2) (failed D rows c.args.first.0 (Some c.args.second.0) _ _ _ _ e _ c.in-err-number.ensures.drawn);
+      settles = rw (p.1, p.2) (failed D rows c.args.first.0 (Some c.args.second.0) _ _ _ _ e _ c.in_err-number.ensures.drawn);
       same_len = refl;
       same_over = refl;
       measured = λ h. h;
     }
 
-pub record-mut-requires : goal.record-mut-requires
-record-mut-requires g c = open_there c.args.self.now c.args.denominator c.args.first.0 c.requires.first-open
+pub record_mut-requires : goal.record_mut-requires
+record_mut-requires g c = open_there c.args.self.now c.args.denominator c.args.first.0 c.requires.first-open
 
-pub record-mut-requires-2 : goal.record-mut-requires-2
-record-mut-requires-2 g c = open_there c.args.self.now c.args.denominator c.args.second.0 c.requires.second-open
+pub record_mut-requires-2 : goal.record_mut-requires-2
+record_mut-requires-2 g c = open_there c.args.self.now c.args.denominator c.args.second.0 c.requires.second-open
 
 pub returns : goal.returns
 returns g c =
@@ -47,12 +47,12 @@ returns g c =
     let rows = c.args.self.now.records.items in
     let i = c.args.first.0 in
     let j = c.args.second.0 in
-    let e = rw (c.present-of-a.ensures, c.present-of-b.ensures) at c.settle-settling.ensures in
-    let lent = read_row rows i _ (open_within D rows i c.requires.first-open) c.record-mut.ensures.value in
-    let other = read_row _ j _ (rw length-set (open_within D rows j c.requires.second-open)) c.record-mut-2.ensures.value in
+    let e = rw (c.present_of-a.ensures, c.present_of-b.ensures) at c.settle-settling.ensures in
+    let lent = read_row rows i _ (open_within D rows i c.requires.first-open) c.record_mut.ensures.value in
+    let other = read_row _ j _ (rw length-set (open_within D rows j c.requires.second-open)) c.record_mut-2.ensures.value in
     let both = written_both rows i j _ _ _ _ lent other in
     record {
-      settles = succeeded D rows i (Some j) _ _ _ _ e _ _ c.in-ok-number.ensures.drawn (both ∙ ap (λ (got : ℕ × ℕ). settled rows i (Some j) got) c.outcome-one.ensures);
+      settles = succeeded D rows i (Some j) _ _ _ _ e _ _ c.in_ok-number.ensures.drawn (both ∙ ap (λ (got : ℕ × ℕ). settled rows i (Some j) got) c.outcome-one.ensures);
       same_len = refl;
       same_over = refl;
       measured = λ h. subst Measured (sym both) (measured_renumbered _ j _ (measured_renumbered rows i _ h));

@@ -17,7 +17,7 @@ count-split-requires c =
 
 pub loop-record-preserved : goal.loop-record-preserved
 loop-record-preserved c =
-    split_more _ _ _ _ _ _ _ c.loop-record.invariant (rw c.deref-record-items.ensures.value at c.is-certain.ensures)
+    split_more _ _ _ _ _ _ _ c.loop-record.invariant (rw c.deref-record-items.ensures.value at c.is_certain.ensures)
     (ap (λ rows. measures rows c.loop-record.record-index) c.deref-record-items.ensures.value) c.count-split.ensures
 
 pub returns : goal.returns

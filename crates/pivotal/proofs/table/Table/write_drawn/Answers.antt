@@ -1,15 +1,15 @@
 use Rattle.std.proofs.Common.{◌<◌, length, sym, arith}
 use Rattle.pivotal.proofs.Rolls.{drawn_here, passed_here, front_room, front_yes, front_no, front_all}
 use Rattle.pivotal.proofs.table.Table.write_drawn.Goals as goal
-use Rattle.pivotal.proofs.table.Table.write_drawn.Goals.{then-is-drawn, else-is-drawn}
+use Rattle.pivotal.proofs.table.Table.write_drawn.Goals.{then-is_drawn, else-is_drawn}
 
 -- there is a place for the number of a drawn unit
-room : (c : goal.Then-is-drawn) → c.loop-i.written < length c.args.list.now
+room : (c : goal.Then-is_drawn) → c.loop-i.written < length c.args.list.now
 room c =
     let rows = c.args.self.now.records.items in
     let v = c.args.self.now.records.ok.0 in
     let l : c.loop-i.i < length rows = omega (arith, c.deref-record-items.ensures.len) in
-    front_room c.loop-i.invariant c.requires.room l (drawn_here _ rows _ l (sym (rw c.deref-record-items.ensures.value at c.if-is-drawn.ensures)))
+    front_room c.loop-i.invariant c.requires.room l (drawn_here _ rows _ l (sym (rw c.deref-record-items.ensures.value at c.if-is_drawn.ensures)))
 
 pub offset-bounds-list-written : goal.offset-bounds-list-written
 offset-bounds-list-written c = omega (arith, room c)
@@ -25,12 +25,12 @@ loop-i-preserved c =
     let rows = c.args.self.now.records.items in
     let v = c.args.self.now.records.ok.0 in
     let l : c.loop-i.i < length rows = omega (arith, c.deref-record-items.ensures.len) in
-    elim c.if-is-drawn.branch [
-      | then-is-drawn w ↦
-          let e = drawn_here c.args.denominator rows c.loop-i.i l (sym (rw c.deref-record-items.ensures.value at w.if-is-drawn.ensures)) in
+    elim c.if-is_drawn.branch [
+      | then-is_drawn w ↦
+          let e = drawn_here c.args.denominator rows c.loop-i.i l (sym (rw c.deref-record-items.ensures.value at w.if-is_drawn.ensures)) in
           rw (w.list_is, w.written-is) (front_yes c.loop-i.invariant (front_room c.loop-i.invariant c.requires.room l e) e)
-      | else-is-drawn w ↦
-          rw (w.list_is, w.written-is) (front_no c.loop-i.invariant (passed_here c.args.denominator rows c.loop-i.i (sym (rw c.deref-record-items.ensures.value at w.if-is-drawn.ensures))))
+      | else-is_drawn w ↦
+          rw (w.list_is, w.written-is) (front_no c.loop-i.invariant (passed_here c.args.denominator rows c.loop-i.i (sym (rw c.deref-record-items.ensures.value at w.if-is_drawn.ensures))))
     ]
 
 pub returns : goal.returns

@@ -2,7 +2,7 @@ use Rattle.std.proofs.Common.{◌≡◌, length, vec_items, sym, ap, ◌∙◌, 
 use Rattle.structures.specs.Drainage.{node_at}
 use Rattle.structures.proofs.Holding.{held_none, held_over, held_more}
 use Rattle.structures.proofs.tree.Tree.at_homes.Goals as goal
-use Rattle.structures.proofs.tree.Tree.at_homes.Goals.{then-is-marked, else-is-marked}
+use Rattle.structures.proofs.tree.Tree.at_homes.Goals.{then-is_marked, else-is_marked}
 
 pub loop-i-init : goal.loop-i-init
 loop-i-init c = held_none _ _ _
@@ -11,12 +11,12 @@ pub loop-i-preserved : goal.loop-i-preserved
 loop-i-preserved c =
     let homes = vec_items c.args.self.now.homes in
     let read = c.deref-home-items.ensures.value in
-    elim c.if-is-marked.branch [
-      | then-is-marked w ↦ rw (w.held-is, read) (held_more (node_at homes) (length homes) c.args.marks.now c.loop-i.i c.loop-i.held _
-          (omega (arith, c.loop-i-test.true, ap length read)) (sym c.is-marked.ensures ∙ w.if-is-marked.true)
+    elim c.if-is_marked.branch [
+      | then-is_marked w ↦ rw (w.held-is, read) (held_more (node_at homes) (length homes) c.args.marks.now c.loop-i.i c.loop-i.held _
+          (omega (arith, c.loop-i-test.true, ap length read)) (sym c.is_marked.ensures ∙ w.if-is_marked.true)
           (rw read at w.with.ensures) c.loop-i.invariant)
-      | else-is-marked w ↦ rw w.held-is (held_over (node_at homes) (length homes) c.args.marks.now c.loop-i.i c.loop-i.held
-          (sym c.is-marked.ensures ∙ w.if-is-marked.false) c.loop-i.invariant)
+      | else-is_marked w ↦ rw w.held-is (held_over (node_at homes) (length homes) c.args.marks.now c.loop-i.i c.loop-i.held
+          (sym c.is_marked.ensures ∙ w.if-is_marked.false) c.loop-i.invariant)
     ]
 
 pub returns : goal.returns

@@ -19,26 +19,26 @@ returns-then-span-eq0 c =
 pub returns-then-word-span : goal.returns-then-word-span
 returns-then-word-span c =
     record {
-      filled = Filled.word_out_of_range (omega arith) c.if-span-gt-MAX-SPAN.false c.loop-position-test.true c.loop-position.invariant c.if-word-span.true refl
+      filled = Filled.word_out_of_range (omega arith) c.if-span-gt-MAX_SPAN.false c.loop-position-test.true c.loop-position.invariant c.if-word-span.true refl
           (past_none (tape_source c.args.self.now));
       memory = not_memory 23 _ (lit< tt) refl;
       kept = λ _. refl;
     }
 
-pub returns-in-err-extend-from-slice : goal.returns-in-err-extend-from-slice
-returns-in-err-extend-from-slice c =
-    let p = err_from_is_err_and c.from-residual.result c.from-residual.ensures.1 in
+pub returns-in_err-extend_from_slice : goal.returns-in_err-extend_from_slice
+returns-in_err-extend_from_slice c =
+    let p = err_from_is_err_and c.from_residual.result c.from_residual.ensures.1 in
     rw p.1 record {
-      filled = Filled.no_memory (omega arith, c.if-span-gt-MAX-SPAN.false, λ i h. c.loop-position.invariant i (omega arith)) p.2 (past_none (tape_source c.args.self.now));
-      memory = λ _. omega (arith, c.in-err-extend-from-slice.ensures.full);
+      filled = Filled.no_memory (omega arith, c.if-span-gt-MAX_SPAN.false, λ i h. c.loop-position.invariant i (omega arith)) p.2 (past_none (tape_source c.args.self.now));
+      memory = λ _. omega (arith, c.in_err-extend_from_slice.ensures.full);
       kept = λ _. refl;
     }
 
 pub returns : goal.returns
 returns c =
     record {
-      filled = Filled.filled (omega arith, c.if-span-gt-MAX-SPAN.false, λ i h. c.loop-position.invariant i (omega arith)) refl
-          (λ i. ap (slice_get _) (zero-add i) ∙ ap (λ ws. slice_get ws i) (c.in-ok-extend-from-slice.ensures.items ∙ ap (λ front. front ++ c.args.words.now) c.new-copied.ensures.items));
+      filled = Filled.filled (omega arith, c.if-span-gt-MAX_SPAN.false, λ i h. c.loop-position.invariant i (omega arith)) refl
+          (λ i. ap (slice_get _) (zero-add i) ∙ ap (λ ws. slice_get ws i) (c.in_ok-extend_from_slice.ensures.items ∙ ap (λ front. front ++ c.args.words.now) c.new-copied.ensures.items));
       memory = tt;
       kept = λ e. absurd (false≢true e);
     }

@@ -4,7 +4,7 @@ use Rattle.structures.specs.Sets.{both}
 use Rattle.structures.specs.Strata.{stratum_at, of_stratum}
 use Rattle.structures.proofs.Masks.{Masked, masked_none, masked_more, kept_marked, left_unmarked, chosen}
 use Rattle.structures.proofs.strata.methods.StrataStructure.choice.Goals as goal
-use Rattle.structures.proofs.strata.methods.StrataStructure.choice.Goals.{then-is-marked, else-is-marked}
+use Rattle.structures.proofs.strata.methods.StrataStructure.choice.Goals.{then-is_marked, else-is_marked}
 
 pub loop-unit-init : goal.loop-unit-init
 loop-unit-init g c = masked_none _
@@ -18,17 +18,17 @@ loop-unit-preserved g c =
     let u = c.in-Some.stratum.0 in
     let marks = c.args.marks.now in
     let stratum = stratum_at self.strata.items in
-    let byte : c.if-is-marked.kept ≡ both (marked M.units marks) (of_stratum stratum u) k = elim c.if-is-marked.branch [
-      | then-is-marked w ↦ kept_marked M.units marks stratum u k w.stratum-of.result.0 c.if-is-marked.kept (omega arith)
-          w.if-is-marked.ensures w.stratum-of.ensures w.kept-is
-      | else-is-marked w ↦ left_unmarked M.units marks stratum u k c.if-is-marked.kept c.is-marked.result
-          w.if-is-marked.ensures w.kept-is w.if-is-marked.false
+    let byte : c.if-is_marked.kept ≡ both (marked M.units marks) (of_stratum stratum u) k = elim c.if-is_marked.branch [
+      | then-is_marked w ↦ kept_marked M.units marks stratum u k w.stratum_of.result.0 c.if-is_marked.kept (omega arith)
+          w.if-is_marked.ensures w.stratum_of.ensures w.kept-is
+      | else-is_marked w ↦ left_unmarked M.units marks stratum u k c.if-is_marked.kept c.is_marked.result
+          w.if-is_marked.ensures w.kept-is w.if-is_marked.false
     ] in
-    masked_more (both (marked M.units marks) (of_stratum stratum u)) c.loop-unit.masked k c.if-is-marked.kept
+    masked_more (both (marked M.units marks) (of_stratum stratum u)) c.loop-unit.masked k c.if-is_marked.kept
     (omega arith) c.loop-unit.invariant byte
 
-pub returns-in-default : goal.returns-in-default
-returns-in-default g c = rw (sym c.in-default.ensures) c.choice.ensures
+pub returns-in_default : goal.returns-in_default
+returns-in_default g c = rw (sym c.in_default.ensures) c.choice.ensures
 
 pub returns : goal.returns
 returns g c =

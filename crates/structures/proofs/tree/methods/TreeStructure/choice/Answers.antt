@@ -10,7 +10,7 @@ pub loop-node-init : goal.loop-node-init
 loop-node-init c =
     let t = c.args.self.now in
     let nodes : c.len-node.result ≡ length (vec_items t.parents) = omega (arith, c.len-node.ensures, t.parents.ok.0) in
-    rw nodes (carried_none _ (vec_items t.parents) (vec_items t.homes) t.ok (marked_within _ c.args.marks.now) c.at-homes-held.result c.at-homes-held.ensures)
+    rw nodes (carried_none _ (vec_items t.parents) (vec_items t.homes) t.ok (marked_within _ c.args.marks.now) c.at_homes-held.result c.at_homes-held.ensures)
 
 pub loop-node-preserved-in-Nothing : goal.loop-node-preserved-in-Nothing
 loop-node-preserved-in-Nothing c =
