@@ -1,4 +1,4 @@
-use Rattle.std.proofs.Common.{sym, refl}
+use Rattle.std.proofs.Common.{sym, refl, inl}
 use Rattle.structures.proofs.Pass.{over_zero, over_first, over_second, over_none}
 use Rattle.structures.proofs.lowest.two_lowest.Goals as goal
 
@@ -6,14 +6,14 @@ pub loop-i-preserved : goal.loop-i-preserved
 loop-i-preserved c =
     let s = over_zero c.args.units c.args.marks.now c.loop-i.i-iterator c.next.new.self c.in-Some.i c.in-Some.mark
     c.in-Some.ensures.steps c.loop-i.first c.loop-i.invariant.2 c.if-mark-ne0.false in
-    ((tt, tt, s.fits), tt, s)
+    ((tt, tt, inl s.fits), tt, s)
 
 pub loop-i-preserved-in-None-first : goal.loop-i-preserved-in-None-first
 loop-i-preserved-in-None-first c =
     let s = over_first c.args.units c.args.marks.now c.loop-i.i-iterator c.next.new.self c.in-Some.i c.in-Some.mark
     c.in-Some.ensures.steps c.loop-i.first record { 0 = c.in-Some.i } c.in-None-first.is refl c.loop-i.invariant.2
     c.if-mark-ne0.true in
-    ((tt, tt, s.fits), tt, s)
+    ((tt, tt, inl s.fits), tt, s)
 
 pub returns-in-Some-first : goal.returns-in-Some-first
 returns-in-Some-first c =

@@ -31,8 +31,8 @@ returns-then-measure-eq0 g c =
 addable : (M : Meaning) (R : Register) (measure : ℕ) → R.over ≡ None → length R.rows < M.units → (measure ≡ 0 → ⊥) → measure ≤ 1000000 → Addable M R measure
 addable M R measure set room some few = record { not_set = set; room = room; some_measure = omega arith; few_measure = few }
 
-pub invariant-of-self : goal.invariant-of-self
-invariant-of-self g c =
+pub invariant_of-self : goal.invariant_of-self
+invariant_of-self g c =
     let self = c.args.self.now in
     let small = (g.S.Structure.meaning self.structure).few_units in
     (omega (arith, small, c.push.ensures.upper-bound), (measured_after _ (vec_items self.table.records) _ _ self.decreases (omega arith) c.if-measure-gt-MAX_MEASURE.false c.push.ensures.items, tt))

@@ -37,8 +37,8 @@ returns-then-size-eq0 g c =
       proper = chances_are_proper;
     }
 
-pub invariant-of-self : goal.invariant-of-self
-invariant-of-self g c =
+pub invariant_of-self : goal.invariant_of-self
+invariant_of-self g c =
     let self = c.args.self.now in
     (omega (arith, self.few, c.start.ensures.same_len), (started_measured c.start.ensures.started self.decreases, tt))
 

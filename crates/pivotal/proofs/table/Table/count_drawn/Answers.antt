@@ -11,8 +11,8 @@ counted c =
     let v = c.args.self.now.records.ok.0 in
     omega (arith, c.loop-record.invariant, count_more c.args.denominator c.args.self.now.records.items c.loop-record.record-index c.is_drawn.result (omega (arith, c.deref-record-items.ensures.len)) (rw c.deref-record-items.ensures.value at c.is_drawn.ensures))
 
-pub overflow-add-count : goal.overflow-add-count
-overflow-add-count c =
+pub overflow_add-count : goal.overflow_add-count
+overflow_add-count c =
     let rows = c.args.self.now.records.items in
     let v = c.args.self.now.records.ok.0 in
     omega (arith, counted c, count_part c.args.denominator rows (c.loop-record.record-index + 1), count_few c.args.denominator rows)

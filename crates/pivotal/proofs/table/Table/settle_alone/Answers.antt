@@ -10,8 +10,8 @@ use Rattle.pivotal.specs.Stepping.{renumbered}
 pub present_of-a-requires : goal.present_of-a-requires
 present_of-a-requires g c = open_there c.args.self.now c.args.denominator c.args.unit.0 c.requires
 
-pub overflow-sub-denominator : goal.overflow-sub-denominator
-overflow-sub-denominator g c = omega (arith, (open_below c.args.denominator (presents c.args.self.now.records.items c.args.unit.0) c.requires).1)
+pub overflow_sub-denominator : goal.overflow_sub-denominator
+overflow_sub-denominator g c = omega (arith, (open_below c.args.denominator (presents c.args.self.now.records.items c.args.unit.0) c.requires).1)
 
 pub settle-residue-requires : goal.settle-residue-requires
 settle-residue-requires g c =

@@ -4,8 +4,8 @@ use Rattle.pivotal.specs.Register.{measures}
 use Rattle.pivotal.proofs.Splits.{total_more, total_small}
 use Rattle.pivotal.proofs.table.Table.total_measure.Goals as goal
 
-pub overflow-add-sum : goal.overflow-add-sum
-overflow-add-sum c =
+pub overflow_add-sum : goal.overflow_add-sum
+overflow_add-sum c =
     let rows = c.args.self.now.records.items in
     let i = c.loop-record.record-index in
     let v = c.args.self.now.records.ok.0 in

@@ -17,8 +17,8 @@ offset-bounds-list-written c = omega (arith, room c)
 pub bounds-list-written : goal.bounds-list-written
 bounds-list-written c = omega (arith, room c)
 
-pub overflow-add-written : goal.overflow-add-written
-overflow-add-written c = omega (arith, room c)
+pub overflow_add-written : goal.overflow_add-written
+overflow_add-written c = omega (arith, room c)
 
 pub loop-i-preserved : goal.loop-i-preserved
 loop-i-preserved c =

@@ -9,8 +9,8 @@ use Rattle.structures.proofs.strata.Strata.counts.Goals as goal
 use Rattle.structures.proofs.strata.Strata.counts.Goals.{then-is_marked, else-is_marked}
 
 -- a stratum has at most the units so far
-pub overflow-add-counts : goal.overflow-add-counts
-overflow-add-counts g c =
+pub overflow_add-counts : goal.overflow_add-counts
+overflow_add-counts g c =
     let self = c.args.self.now in
     let M = g.B.Structure.meaning self.below in
     let stratum = stratum_at self.strata.items in

@@ -57,8 +57,8 @@ returns-then-count-width-gt-MAX_RANGES g c =
       same_below = refl;
     }
 
-pub overflow-cast-self : goal.overflow-cast-self
-overflow-cast-self g c = omega (arith, c.if-count-gt-MAX_STRATA.false)
+pub overflow_cast-self : goal.overflow_cast-self
+overflow_cast-self g c = omega (arith, c.if-count-gt-MAX_STRATA.false)
 
 pub returns-in_err-extend_from_slice : goal.returns-in_err-extend_from_slice
 returns-in_err-extend_from_slice g c =
@@ -73,15 +73,15 @@ returns-in_err-extend_from_slice g c =
       same_below = refl {a = c.args.self.now.below};
     }
 
-pub invariant-of-self : goal.invariant-of-self
-invariant-of-self g c =
-    let copied : vec_items c.extend-from_slice.new.self ≡ c.args.strata.now =
-    c.in_ok-extend_from_slice.ensures.items ∙ ap (λ front. front ++ c.args.strata.now) c.new-copied.ensures.items in (
-      subst (InStrata c.args.count) (sym copied)
+pub invariant_of-self : goal.invariant_of-self
+invariant_of-self g c =
+    let copied : vec_items c.extend_from_slice.new.self ≡ c.args.strata.now =
+    c.in_ok-extend_from_slice.ensures.items ∙ ap (λ front. front ++ c.args.strata.now) c.new-copied.ensures.items in
+    record {
+      ok = subst (InStrata c.args.count) (sym copied)
           (in_strata c.args.count c.args.strata.now c.loop-unit.unit c.if-count-eq0.false
-          c.if-count-gt-MAX_STRATA.false c.loop-unit-test.false c.loop-unit.invariant),
-      tt,
-    )
+          c.if-count-gt-MAX_STRATA.false c.loop-unit-test.false c.loop-unit.invariant);
+    }
 
 pub returns : goal.returns
 returns g c =

@@ -6,7 +6,7 @@ use Rattle.terms.proofs.Telling.{not_memory}
 use Rattle.structures.specs.Drainage.{Drainage}
 use Rattle.structures.specs.Tree.{Filled}
 use Rattle.structures.proofs.tree.Tree.fill.Goals as goal
-use Rattle.structures.proofs.tree.Tree.fill.Goals.{In-ok-check_homes}
+use Rattle.structures.proofs.tree.Tree.fill.Goals.{In_ok-check_homes}
 
 pub returns-in_err-within_limit_of : goal.returns-in_err-within_limit_of
 returns-in_err-within_limit_of c =
@@ -42,7 +42,7 @@ returns-in_err-check_homes c =
     }
 
 -- past the checks the lists are a drainage
-drainage : (c : In-ok-check_homes) → Drainage c.args.parents.now c.args.homes.now
+drainage : (c : In_ok-check_homes) → Drainage c.args.parents.now c.args.homes.now
 drainage c = (
   c.in_ok-within_limit_of.ensures.0,
   c.in_ok-within_limit_of-2.ensures.0,
@@ -54,7 +54,7 @@ pub returns-in_err-extend_from_slice : goal.returns-in_err-extend_from_slice
 returns-in_err-extend_from_slice c =
     let p = err_from_is_err_and c.from_residual-in_err-extend_from_slice.result c.from_residual-in_err-extend_from_slice.ensures.1 in
     rw p.1 record {
-      filled = Filled.no_memory (drainage (goal.at.returns-in_err-extend_from_slice c).In-ok-check_homes) p.2;
+      filled = Filled.no_memory (drainage (goal.at.returns-in_err-extend_from_slice c).In_ok-check_homes) p.2;
       memory = λ _. omega (arith, c.in_err-extend_from_slice.ensures.full);
       kept = λ _. refl;
     }
@@ -62,7 +62,7 @@ returns-in_err-extend_from_slice c =
 pub returns-in_err-extend_from_slice-2 : goal.returns-in_err-extend_from_slice-2
 returns-in_err-extend_from_slice-2 c =
     let p = err_from_is_err_and c.from_residual-in_err-extend_from_slice-2.result c.from_residual-in_err-extend_from_slice-2.ensures.1 in
-    let ok = drainage (goal.at.returns-in_err-extend_from_slice-2 c).In-ok-check_homes in
+    let ok = drainage (goal.at.returns-in_err-extend_from_slice-2 c).In_ok-check_homes in
     let some : 0 < length c.args.homes.now = omega (arith, c.in_err-extend_from_slice-2.ensures.full) in
     rw p.1 record {
       filled = Filled.no_memory ok p.2;
@@ -73,7 +73,7 @@ returns-in_err-extend_from_slice-2 c =
 pub returns : goal.returns
 returns c =
     record {
-      filled = Filled.filled (drainage (goal.at.returns c).In-ok-check_homes)
+      filled = Filled.filled (drainage (goal.at.returns c).In_ok-check_homes)
           (c.in_ok-extend_from_slice.ensures.items ∙ ap (λ front. front ++ c.args.parents.now) c.new-drained.ensures.items)
           (c.in_ok-extend_from_slice-2.ensures.items ∙ ap (λ front. front ++ c.args.homes.now) c.new-housed.ensures.items);
       memory = tt;
