@@ -25,5 +25,5 @@ module _ (M : Meaning) (D : ℕ) (rows : List UnitRecord) where
   -- both units of a pair are open
   pub pair_open : (i j : ℕ) → M.choice (marked_open M D rows) ≡ Some (i, j) → (opened D rows i ≡ true) × (opened D rows j ≡ true)
   pair_open i j e =
-      let both = M.Names-marked (marked_open M D rows) within_units i j e in
+      let both = M.names_marked (marked_open M D rows) within_units i j e in
       ((and_parts (ltb i M.units) (opened D rows i) both.0).1, (and_parts (ltb j M.units) (opened D rows j) both.1).1)

@@ -35,7 +35,10 @@ pub invariant_of-self : goal.invariant_of-self
 invariant_of-self g c =
     let self = c.args.self.now in
     let small = (g.S.Structure.meaning self.structure).few_units in
-    (omega (arith, small, c.push.ensures.upper-bound), (measured_after _ (vec_items self.table.records) _ _ self.decreases (omega arith) c.if-measure-gt-MAX_MEASURE.false c.push.ensures.items, tt))
+    record {
+      few = omega (arith, small, c.push.ensures.upper_bound);
+      measured = measured_after _ (vec_items self.table.records) _ _ self.measured (omega arith) c.if-measure-gt-MAX_MEASURE.false c.push.ensures.items;
+    }
 
 pub returns-in_err-push : goal.returns-in_err-push
 returns-in_err-push g c =

@@ -9,7 +9,7 @@ returns-in_default g c = record { told = ToldRoll.not_set c.in_default.is refl r
 
 pub returns-in-Some-lowest_open : goal.returns-in-Some-lowest_open
 returns-in-Some-lowest_open g c =
-    record { told = ToldRoll.still_Open c.in-Some.is c.in-Some-lowest_open.ensures refl refl; determined = roll_is_determined }
+    record { told = ToldRoll.still_open c.in-Some.is c.in-Some-lowest_open.ensures refl refl; determined = roll_is_determined }
 
 pub returns-then-list-needed : goal.returns-then-list-needed
 returns-then-list-needed g c =

@@ -40,13 +40,13 @@ returns-then-size-eq0 g c =
 pub invariant_of-self : goal.invariant_of-self
 invariant_of-self g c =
     let self = c.args.self.now in
-    (omega (arith, self.few, c.start.ensures.same_len), (started_measured c.start.ensures.started self.decreases, tt))
+    record { few = omega (arith, self.few, c.start.ensures.same_len); measured = started_measured c.start.ensures.started self.measured }
 
 pub returns : goal.returns
 returns g c =
     let self = c.args.self.now in
     let v = self.table.records.ok.0 in
-    let pos = positive (vec_items self.table.records) self.decreases in
+    let pos = positive (vec_items self.table.records) self.measured in
     let split = c.certain_split-split.ensures in
     record {
       sized = Sized.sized (none_from _ (sym c.if-is_some.ensures)) (omega arith) (omega arith) (omega arith) split.certain

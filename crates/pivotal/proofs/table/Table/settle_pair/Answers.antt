@@ -8,18 +8,18 @@ use Rattle.pivotal.specs.Register.{presents, Measured}
 use Rattle.pivotal.specs.Stepping.{settled}
 
 pub present_of-a-requires : goal.present_of-a-requires
-present_of-a-requires g c = open_there c.args.self.now c.args.denominator c.args.first.0 c.requires.first-open
+present_of-a-requires g c = open_there c.args.self.now c.args.denominator c.args.first.0 c.requires.first_open
 
 pub present_of-b-requires : goal.present_of-b-requires
-present_of-b-requires g c = open_there c.args.self.now c.args.denominator c.args.second.0 c.requires.second-open
+present_of-b-requires g c = open_there c.args.self.now c.args.denominator c.args.second.0 c.requires.second_open
 
 pub settle-settling-requires : goal.settle-settling-requires
 settle-settling-requires g c =
     let D = c.args.denominator in
     let rows = c.args.self.now.records.items in
     record {
-      a_within = omega (arith, (open_below D (presents rows c.args.first.0) c.requires.first-open).1);
-      b_within = omega (arith, (open_below D (presents rows c.args.second.0) c.requires.second-open).1);
+      a_within = omega (arith, (open_below D (presents rows c.args.first.0) c.requires.first_open).1);
+      b_within = omega (arith, (open_below D (presents rows c.args.second.0) c.requires.second_open).1);
     }
 
 pub returns-in_err-number : goal.returns-in_err-number
@@ -36,10 +36,10 @@ returns-in_err-number g c =
     }
 
 pub record_mut-requires : goal.record_mut-requires
-record_mut-requires g c = open_there c.args.self.now c.args.denominator c.args.first.0 c.requires.first-open
+record_mut-requires g c = open_there c.args.self.now c.args.denominator c.args.first.0 c.requires.first_open
 
 pub record_mut-requires-2 : goal.record_mut-requires-2
-record_mut-requires-2 g c = open_there c.args.self.now c.args.denominator c.args.second.0 c.requires.second-open
+record_mut-requires-2 g c = open_there c.args.self.now c.args.denominator c.args.second.0 c.requires.second_open
 
 pub returns : goal.returns
 returns g c =
@@ -48,8 +48,8 @@ returns g c =
     let i = c.args.first.0 in
     let j = c.args.second.0 in
     let e = rw (c.present_of-a.ensures, c.present_of-b.ensures) at c.settle-settling.ensures in
-    let lent = read_row rows i _ (open_within D rows i c.requires.first-open) c.record_mut.ensures.value in
-    let other = read_row _ j _ (rw length-set (open_within D rows j c.requires.second-open)) c.record_mut-2.ensures.value in
+    let lent = read_row rows i _ (open_within D rows i c.requires.first_open) c.record_mut.ensures.value in
+    let other = read_row _ j _ (rw length-set (open_within D rows j c.requires.second_open)) c.record_mut-2.ensures.value in
     let both = written_both rows i j _ _ _ _ lent other in
     record {
       settles = succeeded D rows i (Some j) _ _ _ _ e _ _ c.in_ok-number.ensures.drawn (both ∙ ap (λ (got : ℕ × ℕ). settled rows i (Some j) got) c.outcome-one.ensures);

@@ -9,7 +9,7 @@ loop-record-init c = starting_none _ _
 
 pub numerator-numerator-requires : goal.numerator-numerator-requires
 numerator-numerator-requires c =
-    record { measure = starting_small c.deref-mut-record-items.ensures.value c.requires.measured c.loop-record-test.true c.loop-record.invariant; places = c.requires.places }
+    record { measure = starting_small c.deref_mut-record-items.ensures.value c.requires.measured c.loop-record-test.true c.loop-record.invariant; places = c.requires.places }
 
 pub loop-record-preserved : goal.loop-record-preserved
 loop-record-preserved c =
@@ -22,8 +22,8 @@ returns c =
     record {
       over = ap Some c.denominator.ensures;
       started =
-          starting_all (numerator_by c.args.places c.args.split) c.deref-mut-record-items.ensures.value
-          (with_items_is c.args.self.now.records c.loop-record.record-items (omega (arith, c.loop-record.auto.record-items, c.deref-mut-record-items.ensures.len)))
+          starting_all (numerator_by c.args.places c.args.split) c.deref_mut-record-items.ensures.value
+          (with_items_is c.args.self.now.records c.loop-record.record-items (omega (arith, c.loop-record.auto.record-items, c.deref_mut-record-items.ensures.len)))
           c.loop-record-test.false c.loop-record.invariant;
       same_len = refl;
     }

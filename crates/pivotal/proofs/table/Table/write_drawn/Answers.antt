@@ -11,8 +11,8 @@ room c =
     let l : c.loop-i.i < length rows = omega (arith, c.deref-record-items.ensures.len) in
     front_room c.loop-i.invariant c.requires.room l (drawn_here _ rows _ l (sym (rw c.deref-record-items.ensures.value at c.if-is_drawn.ensures)))
 
-pub offset-bounds-list-written : goal.offset-bounds-list-written
-offset-bounds-list-written c = omega (arith, room c)
+pub offset_bounds-list-written : goal.offset_bounds-list-written
+offset_bounds-list-written c = omega (arith, room c)
 
 pub bounds-list-written : goal.bounds-list-written
 bounds-list-written c = omega (arith, room c)
@@ -28,9 +28,9 @@ loop-i-preserved c =
     elim c.if-is_drawn.branch [
       | then-is_drawn w ↦
           let e = drawn_here c.args.denominator rows c.loop-i.i l (sym (rw c.deref-record-items.ensures.value at w.if-is_drawn.ensures)) in
-          rw (w.list_is, w.written-is) (front_yes c.loop-i.invariant (front_room c.loop-i.invariant c.requires.room l e) e)
+          rw (w.list-is, w.written-is) (front_yes c.loop-i.invariant (front_room c.loop-i.invariant c.requires.room l e) e)
       | else-is_drawn w ↦
-          rw (w.list_is, w.written-is) (front_no c.loop-i.invariant (passed_here c.args.denominator rows c.loop-i.i (sym (rw c.deref-record-items.ensures.value at w.if-is_drawn.ensures))))
+          rw (w.list-is, w.written-is) (front_no c.loop-i.invariant (passed_here c.args.denominator rows c.loop-i.i (sym (rw c.deref-record-items.ensures.value at w.if-is_drawn.ensures))))
     ]
 
 pub returns : goal.returns
