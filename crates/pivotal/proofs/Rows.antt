@@ -1,5 +1,5 @@
 -- Laws of the rows of a register.
-use Rattle.std.proofs.Common.{◌≡◌, ℕ, ◌+◌, ◌<◌, ◌≤◌, Bool, true, false, cond, ltb, List, [], ◌∷◌, ◌++◌, length, get_or, vec_items, vec_len, Option, sym, ap, subst, inl, inr, arith}
+use Rattle.std.proofs.Common.{◌≡◌, ℕ, ◌<◌, ◌≤◌, Bool, true, false, cond, ltb, List, [], ◌∷◌, ◌++◌, length, get_or, vec_items, vec_len, Option, sym, ap, subst, inl, inr, arith}
 use Rattle.std.proofs.lemmas.List.{length_push, get_or_push, get_or_past, get_or_read, get_or_append_left}
 use Rattle.std.proofs.lemmas.Bool.{both_ways, cases_lt, and_parts, ltb-true}
 use Rattle.pivotal.specs.Register.{Register, blank, between, opened, Measured}

@@ -1,7 +1,6 @@
 use Rattle.std.proofs.Common.{◌≡◌, ℕ, ◌<◌, ◌≤◌, length, None, vec_items, sym, refl, ap, subst, inl, inr, arith, lit<}
 use Rattle.std.proofs.lemmas.Result.{err_from_is_err_and}
 use Rattle.structures.specs.Meaning.{Meaning}
-use Rattle.terms.specs.Faults.{tells}
 use Rattle.pivotal.proofs.Options.{some_from, none_from}
 use Rattle.pivotal.proofs.Rows.{measured_after, same_register}
 use Rattle.pivotal.proofs.draw.Draw.add.Goals as goal
