@@ -3,7 +3,7 @@ ghost use Rattle.std.specs.Borrow.{follows, sem};
 ghost use Rattle.std.specs.Prelude.{◌≡◌, ℕ, ◌<◌, ◌≤◌, not, length, vec_len, ◌==◌, slice_index, slice_index_or};
 ghost use Rattle.pivotal.specs.Register.{between, opened, presents, FindsOpen};
 ghost use Rattle.pivotal.specs.contracts.table.Table.{the_row};
-ghost use Rattle.pivotal.specs.contracts.table.UnitRecord.{the_row as record-row};
+ghost use Rattle.pivotal.specs.contracts.table.UnitRecord.{the_row as record_row};
 ghost use Rattle.std.specs.Vec.{with_item};
 
 use terms::UnitNo;
@@ -70,7 +70,7 @@ impl Table {
     // The record of one unit, lent to be changed.
     pub(crate) fn record_mut(&mut self, unit: UnitNo) -> &mut UnitRecord
         requires { unit.0 < vec_len self.old.records }
-        ensures* lends { sem 𝓛 (follows the_row record-row self.entry.ghost_name result.ghost_name (λ w. record { records = with_item self.old.records unit.0 w; denominator = self.old.denominator })) }
+        ensures* lends { sem 𝓛 (follows the_row record_row self.entry.ghost_name result.ghost_name (λ w. record { records = with_item self.old.records unit.0 w; denominator = self.old.denominator })) }
         ensures value { result.now ≡ slice_index_or self.old.records.items unit.0 result.now }
     {
         &mut self.records[unit.0 as usize]
