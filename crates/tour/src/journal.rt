@@ -1,53 +1,17 @@
 // What is printed of a draw.
-use crate::canals::Canal;
+use crate::canal::{GATES, NAME, SEED, SIZE};
 use pivotal::{Draw, StepRecord};
-use structures::{Audited, Structure};
-use terms::{RangeNo, UnitNo};
+use structures::Structure;
+use terms::UnitNo;
 
-// Whose roll it is.
-pub(crate) fn print_heading(rt: &impl Print, canal: &Canal) -> anyhow::Result<()> {
-    println!(rt;
-        "{}: {} of {} gates, generator started at {}",
-        canal.name,
-        canal.size,
-        canal.gates.len(),
-        canal.seed
-    )?;
+// Whose roll it is, and each gate with its cost and the numerator that it starts from. The costliest
+// gate of this canal is sure to be drawn, so its numerator is the denominator of all.
+pub(crate) fn print_register<S: Structure>(rt: &impl Print, draw: &Draw<S>) -> anyhow::Result<()> {
+    println!(rt; "{NAME}: {SIZE} of {} gates, seed {SEED}", GATES.len())?;
     println!(rt; "")?;
-    Ok(())
-}
-
-// The units that each range holds.
-pub(crate) fn print_ranges<S: Audited>(rt: &impl Print, structure: &S) -> anyhow::Result<()> {
-    println!(rt; "range: units")?;
-    for range in 0..structure.ranges() {
-        print_range(rt, structure, RangeNo(range))?;
-    }
-    println!(rt; "")?;
-    Ok(())
-}
-
-fn print_range<S: Audited>(rt: &impl Print, structure: &S, range: RangeNo) -> anyhow::Result<()> {
-    print!(rt; "{:>5}:", range.0)?;
-    for unit in 0..structure.units() {
-        if structure.holds(range, UnitNo(unit)) {
-            print!(rt; " {unit}")?;
-        }
-    }
-    println!(rt; "")?;
-    Ok(())
-}
-
-// Each gate with its cost and the numerator that it starts from. The costliest gate of each of these
-// canals is sure to be drawn, so its numerator is the denominator of all.
-pub(crate) fn print_register<S: Structure>(
-    rt: &impl Print,
-    draw: &Draw<S>,
-    canal: &Canal,
-) -> anyhow::Result<()> {
     println!(rt; "unit      cost  numerator  name")?;
     let mut denominator = 0;
-    for (i, gate) in canal.gates.iter().enumerate().take(1024) {
+    for (i, gate) in GATES.iter().enumerate() {
         let unit = draw.unit(UnitNo(i as u16))?;
         denominator = denominator.max(unit.start);
         println!(rt;
@@ -86,17 +50,13 @@ pub(crate) fn print_step<S: Structure>(
 }
 
 // The gates on the roll, by name.
-pub(crate) fn print_roll<S: Structure>(
-    rt: &impl Print,
-    draw: &Draw<S>,
-    canal: &Canal,
-) -> anyhow::Result<()> {
+pub(crate) fn print_roll<S: Structure>(rt: &impl Print, draw: &Draw<S>) -> anyhow::Result<()> {
     let mut list = [0u16; 1024];
     let drawn = draw.roll(&mut list)?;
     println!(rt; "")?;
     println!(rt; "the roll")?;
     for unit in list.iter().take(drawn) {
-        if let Some(gate) = canal.gates.get(*unit as usize) {
+        if let Some(gate) = GATES.get(*unit as usize) {
             println!(rt; "{unit:>4}  {}", gate.name)?;
         }
     }
