@@ -4,7 +4,7 @@ ghost use Rattle.terms.specs.Faults.{tells};
 
 use terms::Fault;
 
-// The most units that a structure may have.
+// The most units that a structure may have, and the most nodes of a tree.
 const MAX_UNITS: u32 = 1024;
 
 // The number of units, which a structure can have or which is refused.
@@ -18,11 +18,11 @@ pub(crate) fn within_limit(units: u32) -> Result<u16, Fault>
 }
 
 // So many nodes or units in a list, which a structure can have or which are refused.
-pub(crate) fn within_limit_of(length: usize) -> Result<u16, Fault>
-    ensures { MatchResult result (λ taken. (length ≤ 1024) × (taken ≡ length)) (λ fault. (1024 < length) × (tells fault ≡ (17, 0))) }
+pub(crate) fn within_limit_of(entries: usize) -> Result<u16, Fault>
+    ensures { MatchResult result (λ taken. (entries ≤ 1024) × (taken ≡ entries)) (λ fault. (1024 < entries) × (tells fault ≡ (17, 0))) }
 {
-    if length > MAX_UNITS as usize {
+    if entries > MAX_UNITS as usize {
         return Err(Fault::StructureTooLarge);
     }
-    Ok(length as u16)
+    Ok(entries as u16)
 }

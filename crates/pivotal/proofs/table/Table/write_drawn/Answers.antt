@@ -1,5 +1,5 @@
-use Rattle.std.proofs.Common.{◌<◌, length, sym, arith}
-use Rattle.pivotal.proofs.Rolls.{drawn_here, passed_here, front_room, front_yes, front_no, front_all}
+use Rattle.std.proofs.Common.{◌≡◌, ◌+◌, ◌<◌, length, sym, arith}
+use Rattle.pivotal.proofs.Rolls.{count_few, count_part, drawn_here, passed_here, length_numbers, front_room, front_yes, front_no, front_all}
 use Rattle.pivotal.proofs.table.Table.write_drawn.Goals as goal
 use Rattle.pivotal.proofs.table.Table.write_drawn.Goals.{then-is_drawn, else-is_drawn}
 
@@ -28,7 +28,14 @@ loop-i-preserved c =
     elim c.if-is_drawn.branch [
       | then-is_drawn w ↦
           let e = drawn_here c.args.denominator rows c.loop-i.i l (sym (rw c.deref-record-items.ensures.value at w.if-is_drawn.ensures)) in
-          rw (w.list-is, w.written-is) (front_yes c.loop-i.invariant (front_room c.loop-i.invariant c.requires.room l e) e)
+          let next : c.if-is_drawn.written ≡ c.loop-i.written + 1 = omega (
+            arith,
+            c.loop-i.invariant.many_is,
+            length_numbers c.args.denominator rows c.loop-i.i (omega arith),
+            count_part c.args.denominator rows c.loop-i.i,
+            count_few c.args.denominator rows,
+          ) in
+          rw (w.list-is, next) (front_yes c.loop-i.invariant (front_room c.loop-i.invariant c.requires.room l e) e)
       | else-is_drawn w ↦
           rw (w.list-is, w.written-is) (front_no c.loop-i.invariant (passed_here c.args.denominator rows c.loop-i.i (sym (rw c.deref-record-items.ensures.value at w.if-is_drawn.ensures))))
     ]

@@ -1,3 +1,4 @@
+use Rattle.std.proofs.Common.{arith}
 use Rattle.std.proofs.lemmas.Result.{err_from_is_err_and}
 use Rattle.structures.specs.LowestLaws.{lowest_found}
 use Rattle.structures.proofs.line.Line.new.Goals as goal
@@ -8,4 +9,4 @@ returns-in_err-units c =
     rw (p.1, p.2) record { answer = c.in_err-units.ensures; lowest = lowest_found }
 
 pub returns : goal.returns
-returns c = record { answer = c.in_ok-units.ensures; lowest = lowest_found }
+returns c = record { answer = (omega arith, omega arith); lowest = lowest_found }
