@@ -66,58 +66,53 @@ pub enum Fault {
 }
 
 impl Fault {
-    // The number of the refusal.
-    pub fn number(&self) -> u8
-        ensures { result ≡ (tells self.now).0 }
+    // The number of the refusal and its place, which is 0 where a case names none.
+    pub fn tells(self) -> (u8, u64)
+        ensures { result ≡ tells self }
     {
         match self {
-            Fault::AlreadySet => 1,
-            Fault::RegisterFull => 2,
-            Fault::MeasureOutOfRange(_) => 3,
-            Fault::UnitsMissing(_) => 4,
-            Fault::SizeOutOfRange => 5,
-            Fault::DenominatorOutOfRange(_) => 6,
-            Fault::BoundOutOfRange => 7,
-            Fault::WordsEnded(_) => 8,
-            Fault::WordsRejected => 9,
-            Fault::NotSet => 10,
-            Fault::NothingOpen => 11,
-            Fault::LimitTooHigh => 12,
-            Fault::NumberTooHigh => 13,
-            Fault::StillOpen(_) => 14,
-            Fault::ListTooShort(_) => 15,
-            Fault::SetByRates => 16,
-            Fault::StructureTooLarge => 17,
-            Fault::ParentOutOfOrder(_) => 18,
-            Fault::HomeTooHigh(_) => 19,
-            Fault::StrataOutOfRange => 20,
-            Fault::StratumTooHigh(_) => 21,
-            Fault::TooManyRanges => 22,
-            Fault::SpanOutOfRange => 23,
-            Fault::WordOutOfRange(_) => 23,
-            Fault::SeedOutOfRange => 24,
-            Fault::NoMemory => 99,
+            Fault::AlreadySet => (1, 0),
+            Fault::RegisterFull => (2, 0),
+            Fault::MeasureOutOfRange(unit) => (3, unit.0 as u64),
+            Fault::UnitsMissing(added) => (4, added as u64),
+            Fault::SizeOutOfRange => (5, 0),
+            Fault::DenominatorOutOfRange(None) => (6, 0),
+            Fault::DenominatorOutOfRange(Some(unit)) => (6, unit.0 as u64),
+            Fault::BoundOutOfRange => (7, 0),
+            Fault::WordsEnded(read) => (8, read as u64),
+            Fault::WordsRejected => (9, 64),
+            Fault::NotSet => (10, 0),
+            Fault::NothingOpen => (11, 0),
+            Fault::LimitTooHigh => (12, 0),
+            Fault::NumberTooHigh => (13, 0),
+            Fault::StillOpen(unit) => (14, unit.0 as u64),
+            Fault::ListTooShort(needed) => (15, needed as u64),
+            Fault::SetByRates => (16, 0),
+            Fault::StructureTooLarge => (17, 0),
+            Fault::ParentOutOfOrder(node) => (18, node.0 as u64),
+            Fault::HomeTooHigh(unit) => (19, unit.0 as u64),
+            Fault::StrataOutOfRange => (20, 0),
+            Fault::StratumTooHigh(unit) => (21, unit.0 as u64),
+            Fault::TooManyRanges => (22, 0),
+            Fault::SpanOutOfRange => (23, 0),
+            Fault::WordOutOfRange(position) => (23, position as u64),
+            Fault::SeedOutOfRange => (24, 0),
+            Fault::NoMemory => (99, 0),
         }
     }
 
-    // The place of the refusal: 0 where a case names none.
+    // The number alone.
+    pub fn number(&self) -> u8
+        ensures { result ≡ (tells self.now).0 }
+    {
+        self.tells().0
+    }
+
+    // The place alone.
     pub fn place(&self) -> u64
         ensures { result ≡ (tells self.now).1 }
     {
-        match self {
-            Fault::MeasureOutOfRange(unit) => unit.0 as u64,
-            Fault::UnitsMissing(added) => *added as u64,
-            Fault::DenominatorOutOfRange(Some(unit)) => unit.0 as u64,
-            Fault::WordsEnded(read) => *read as u64,
-            Fault::WordsRejected => 64,
-            Fault::StillOpen(unit) => unit.0 as u64,
-            Fault::ListTooShort(needed) => *needed as u64,
-            Fault::ParentOutOfOrder(node) => node.0 as u64,
-            Fault::HomeTooHigh(unit) => unit.0 as u64,
-            Fault::StratumTooHigh(unit) => unit.0 as u64,
-            Fault::WordOutOfRange(position) => *position as u64,
-            _ => 0,
-        }
+        self.tells().1
     }
 }
 
@@ -126,8 +121,7 @@ impl fmt::Display for Fault {
     ghost output = { λ fault. Some (codes "refusal " ++ (decimal (tells fault).0 ++ (codes " at " ++ decimal (tells fault).1))) };
 
     fn fmt<W: fmt::Write>(&self, f: &mut fmt::Formatter<W>) -> fmt::Result {
-        let number = self.number();
-        let place = self.place();
+        let (number, place) = self.tells();
         write!(f, "refusal {number} at {place}")
     }
 }
