@@ -21,7 +21,7 @@ impl Line {
         ensures answer { MatchResult result (λ made. (units ≤ 1024) × (made.units ≡ units)) (λ fault. (1024 < units) × (tells fault ≡ (17, 0))) }
         ensures lowest { LowestFound }
     {
-        let units = within_limit(units)?;
+        let units = within_limit(units as usize)?;
         Ok(Line { units })
     }
 }

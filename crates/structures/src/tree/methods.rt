@@ -8,7 +8,7 @@ ghost use Rattle.structures.specs.Marks.{marked};
 ghost use Rattle.structures.specs.Tree.{tree, Filled};
 ghost use Rattle.terms.specs.Faults.{tells};
 
-use crate::limits::within_limit_of;
+use crate::limits::within_limit;
 use crate::marks::is_marked;
 use crate::structure::{Audited, Structure};
 use crate::tree::Tree;
@@ -73,8 +73,8 @@ impl Tree {
         ensures memory { IfErr result (λ fault. tells fault ≡ (99, 0) → 1 ≤ length parents.now) }
         ensures kept { is_err result ≡ true → self.new ≡ self.old }
     {
-        within_limit_of(parents.len())?;
-        within_limit_of(homes.len())?;
+        within_limit(parents.len())?;
+        within_limit(homes.len())?;
         check_parents(parents)?;
         check_homes(parents.len(), homes)?;
         // Both copies are made before any change.

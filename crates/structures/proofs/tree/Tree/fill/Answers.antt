@@ -8,16 +8,16 @@ use Rattle.structures.specs.Tree.{Filled}
 use Rattle.structures.proofs.tree.Tree.fill.Goals as goal
 use Rattle.structures.proofs.tree.Tree.fill.Goals.{In_ok-check_homes}
 
-pub returns-in_err-within_limit_of : goal.returns-in_err-within_limit_of
-returns-in_err-within_limit_of c =
+pub returns-in_err-within_limit : goal.returns-in_err-within_limit
+returns-in_err-within_limit c =
     let p = err_from_is_err_and c.from_residual.result c.from_residual.ensures.1 in
-    let h = c.in_err-within_limit_of.ensures in
+    let h = c.in_err-within_limit.ensures in
     rw (p.1, p.2) record { filled = Filled.too_large (inl h.0) h.1; memory = not_memory 17 _ (lit< tt) h.1; kept = λ _. refl }
 
-pub returns-in_err-within_limit_of-2 : goal.returns-in_err-within_limit_of-2
-returns-in_err-within_limit_of-2 c =
-    let p = err_from_is_err_and c.from_residual-in_err-within_limit_of-2.result c.from_residual-in_err-within_limit_of-2.ensures.1 in
-    let h = c.in_err-within_limit_of-2.ensures in
+pub returns-in_err-within_limit-2 : goal.returns-in_err-within_limit-2
+returns-in_err-within_limit-2 c =
+    let p = err_from_is_err_and c.from_residual-in_err-within_limit-2.result c.from_residual-in_err-within_limit-2.ensures.1 in
+    let h = c.in_err-within_limit-2.ensures in
     rw (p.1, p.2) record { filled = Filled.too_large (inr h.0) h.1; memory = not_memory 17 _ (lit< tt) h.1; kept = λ _. refl }
 
 pub returns-in_err-check_parents : goal.returns-in_err-check_parents
@@ -25,7 +25,7 @@ returns-in_err-check_parents c =
     let p = err_from_is_err_and c.from_residual-in_err-check_parents.result c.from_residual-in_err-check_parents.ensures.1 in
     let h = c.in_err-check_parents.ensures in
     rw (p.1, p.2) record {
-      filled = Filled.parent_out_of_order c.in_ok-within_limit_of.ensures.0 c.in_ok-within_limit_of-2.ensures.0 h.1 h.2;
+      filled = Filled.parent_out_of_order c.in_ok-within_limit.ensures.0 c.in_ok-within_limit-2.ensures.0 h.1 h.2;
       memory = not_memory 18 _ (lit< tt) h.2;
       kept = λ _. refl;
     }
@@ -35,7 +35,7 @@ returns-in_err-check_homes c =
     let p = err_from_is_err_and c.from_residual-in_err-check_homes.result c.from_residual-in_err-check_homes.ensures.1 in
     let h = c.in_err-check_homes.ensures in
     rw (p.1, p.2) record {
-      filled = Filled.home_too_high c.in_ok-within_limit_of.ensures.0 c.in_ok-within_limit_of-2.ensures.0
+      filled = Filled.home_too_high c.in_ok-within_limit.ensures.0 c.in_ok-within_limit-2.ensures.0
           c.in_ok-check_parents.ensures h.1 h.2;
       memory = not_memory 19 _ (lit< tt) h.2;
       kept = λ _. refl;
@@ -44,8 +44,8 @@ returns-in_err-check_homes c =
 -- past the checks the lists are a drainage
 drainage : (c : In_ok-check_homes) → Drainage c.args.parents.now c.args.homes.now
 drainage c = (
-  c.in_ok-within_limit_of.ensures.0,
-  c.in_ok-within_limit_of-2.ensures.0,
+  c.in_ok-within_limit.ensures.0,
+  c.in_ok-within_limit-2.ensures.0,
   c.in_ok-check_parents.ensures,
   c.in_ok-check_homes.ensures,
 )
