@@ -1,4 +1,3 @@
 pub mod Passing
 pub mod Evenness
-pub mod Taking
 pub mod Generating

@@ -1,11 +1,12 @@
 -- Generators of words from a seed.
 use Rattle.std.specs.Prelude.{◌≡◌, ℕ, suc, ◌-◌, Some, Ok, Err, Result}
-use Rattle.std.proofs.Common.{arith}
+use Rattle.std.proofs.Common.{sym, arith}
+use Rattle.std.proofs.lemmas.Option.{none-some}
 use Rattle.terms.specs.Faults.{tells}
 use Rattle.terms.specs.declared.fault.Fault.{Fault}
 use Rattle.words.specs.Source.{Source}
 use Rattle.words.specs.States.{InRange, state_after}
-use Rattle.words.specs.StateLaws.{words_below, some_not_none}
+use Rattle.words.specs.StateLaws.{words_below}
 use Rattle.words.specs.declared.park_miller.ParkMiller.{ParkMiller}
 
 -- The word after i others is the state after one more step, less 1; words never run out.
@@ -17,7 +18,7 @@ generated seed ok =
       some_span = omega arith;
       few_span = omega arith;
       below = words_below seed ok;
-      ended = λ i e. some_not_none (state_after seed (suc i) - 1) e;
+      ended = λ i e. absurd (none-some (state_after seed (suc i) - 1) (sym e));
     }
 
 -- What a generator will give: the words from its state on.

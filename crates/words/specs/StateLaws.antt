@@ -1,5 +1,5 @@
 -- Facts on the states of the Park-Miller generator, which its source rests on.
-use Rattle.std.specs.Prelude.{◌≡◌, ℕ, zero, suc, ◌+◌, ◌-◌, ◌*◌, ◌/◌, ◌<◌, Some, None, ◌≢◌}
+use Rattle.std.specs.Prelude.{◌≡◌, ℕ, zero, suc, ◌+◌, ◌-◌, ◌*◌, ◌/◌, ◌<◌, Some, ◌≢◌}
 use Rattle.std.proofs.Common.{inl, inr, div-add-mod', mod-lt, arith}
 use Rattle.std.proofs.lemmas.Bool.{cases_lt}
 use Rattle.words.specs.States.{InRange, next, state_after}
@@ -30,7 +30,3 @@ words_below seed ok i w e =
     let l = states_in_range seed ok (suc i) in
     let s : state_after seed (suc i) - 1 ≡ w = cc in
     omega arith
-
--- a word is not the end of the words
-pub some_not_none : (w : ℕ) {P : Type 0} → Some w ≡ None → P
-some_not_none w e = let z : ◌≡◌ {A = ℕ} 0 1 = cc in absurd (omega arith)

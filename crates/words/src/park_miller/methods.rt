@@ -31,6 +31,7 @@ impl WordSource for ParkMiller {
         MAX_STATE as u64
     }
 
+    #[tactic(auto, using(crate::proofs::Generating::step_first))]
     fn next_word(&mut self) -> Option<u32> {
         self.state = (self.state as u64 * MULTIPLIER % MODULUS) as u32;
         Some(self.state - 1)

@@ -34,12 +34,11 @@ impl Tape {
         if span == 0 || span > MAX_SPAN {
             return Err(Fault::SpanOutOfRange);
         }
-        for (position, word) in words.iter().enumerate() {
-            if *word as u64 >= span {
-                return Err(Fault::WordOutOfRange(position));
-            }
+        if let Some(position) = words.iter().position(|word| *word as u64 >= span) {
+            return Err(Fault::WordOutOfRange(position));
         }
         // The only step that can fail comes before any change.
+        // `Vec::from_slice` does not promise that it asks for no memory where there is nothing to copy.
         let mut copied = Vec::new(self.heap);
         copied.extend_from_slice(words)?;
         self.words = copied;

@@ -1,55 +1,46 @@
 -- Each way out is one case of `Drawn`.
-use Rattle.std.proofs.Common.{◌≡◌, ℕ, refl, subst, inl, inr, arith}
-use Rattle.words.specs.Source.{Past}
-use Rattle.words.specs.Drawing.{Rejected, bound_out_of_range, accepted, words_ended, all_rejected}
-use Rattle.words.proofs.Passing.{past_none, past_word, past_no_word, asked_after, under_limit, over_limit, rejected_more}
+use Rattle.std.proofs.Common.{◌≡◌, ℕ, ◌≤◌, Result, refl, arith, rules, below_more}
+use Rattle.terms.specs.declared.fault.Fault.{Fault}
+use Rattle.words.specs.Source.{Source}
+use Rattle.words.specs.Drawing.{Drawn, GreatestMultiple, EvenHanded, bound_out_of_range, accepted, words_ended, all_rejected}
+use Rattle.words.proofs.Passing.{past_none, past_word, past_no_word, asked_after}
 use Rattle.words.proofs.Evenness.{greatest_multiple, even_handed}
 use Rattle.words.proofs.drawing.draw_below.Goals as goal
 
+-- what is promised of the limit holds whatever the answer
+with_limit : {W W' : Source} {m : ℕ} {r : Result ℕ Fault} → Drawn W m W' r → record {
+  drawn : Drawn W m W' r;
+  greatest : 1 ≤ m → GreatestMultiple W.span m;
+  even : 1 ≤ m → EvenHanded W.span m;
+}
+with_limit d = record { drawn = d; greatest = greatest_multiple _ _; even = even_handed _ _ }
+
 pub returns-then-bound-eq0 : goal.returns-then-bound-eq0
-returns-then-bound-eq0 g c =
-    record {
-      drawn = bound_out_of_range (elim c.then-bound-eq0.either [ inl e ↦ inl e | inr e ↦ inr (omega (arith, e.1)) ]) refl (past_none _);
-      greatest = greatest_multiple _ _;
-      even = even_handed _ _;
-    }
+returns-then-bound-eq0 g c = with_limit (bound_out_of_range (search rules) refl (past_none _))
 
 pub returns-in_default : goal.returns-in_default
 returns-in_default g c =
-    record {
-      drawn = words_ended (omega arith) (omega arith) c.loop-read-test.true c.loop-read.invariant.1
-          (asked_after c.loop-read.invariant.0 c.in_default.ensures.asked) refl
-          (past_no_word c.loop-read.invariant.0 c.in_default.ensures.asked);
-      greatest = greatest_multiple _ _;
-      even = even_handed _ _;
-    }
+    let so_far = c.loop-read.invariant in
+    let asked = c.in_default.ensures.asked in
+    with_limit (words_ended (omega arith) (omega arith) (omega arith) so_far.rejected (asked_after so_far.past asked) (search rules) (past_no_word so_far.past asked))
 
 pub returns-then-word-limit : goal.returns-then-word-limit
 returns-then-word-limit g c =
-    record {
-      drawn = accepted (omega arith) (omega arith) c.loop-read-test.true c.loop-read.invariant.1
-          (asked_after c.loop-read.invariant.0 c.in-Some.ensures.asked) (under_limit c.args.bound c.span-span.ensures c.if-word-limit.true)
-          (past_word c.loop-read.invariant.0 c.in-Some.ensures.asked);
-      greatest = greatest_multiple _ _;
-      even = even_handed _ _;
-    }
+    let so_far = c.loop-read.invariant in
+    let asked = c.in-Some.ensures.asked in
+    with_limit (accepted (omega arith) (omega arith) (omega arith) so_far.rejected (asked_after so_far.past asked) (search rules) (past_word so_far.past asked))
 
 pub loop-read-preserved : goal.loop-read-preserved
-loop-read-preserved g c = (
-  past_word c.loop-read.invariant.0 c.in-Some.ensures.asked,
-  rejected_more (g.W.WordSource.source c.args.words.now) c.args.bound c.loop-read.read c.in-Some.word c.loop-read.invariant.1
-      (asked_after c.loop-read.invariant.0 c.in-Some.ensures.asked) (over_limit c.args.bound c.span-span.ensures c.if-word-limit.false),
-)
+loop-read-preserved g c =
+    let so_far = c.loop-read.invariant in
+    let asked = c.in-Some.ensures.asked in
+    record {
+      past = past_word so_far.past asked;
+      rejected = below_more _ _ so_far.rejected (c.in-Some.word, asked_after so_far.past asked, search rules);
+    }
 
 pub returns : goal.returns
 returns g c =
-    let W = g.W.WordSource.source c.args.words.now in
-    let V = g.W.WordSource.source c.loop-read.words in
+    let so_far = c.loop-read.invariant in
     let all : c.loop-read.read ≡ 64 = omega arith in
-    let P : ℕ → Type 0 = λ n. Past n W V in
-    let R : ℕ → Type 0 = λ n. Rejected W c.args.bound n in
-    record {
-      drawn = all_rejected (omega arith) (omega arith) (subst R all c.loop-read.invariant.1) refl (subst P all c.loop-read.invariant.0);
-      greatest = greatest_multiple _ _;
-      even = even_handed _ _;
-    }
+    with_limit (all_rejected (omega arith) (omega arith) (rw all at so_far.rejected) (search rules) (rw all at so_far.past))
