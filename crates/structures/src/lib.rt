@@ -5,6 +5,7 @@ mod limits;
 mod line;
 mod loose;
 mod lowest;
+mod lowest_first;
 mod marks;
 mod strata;
 mod structure;

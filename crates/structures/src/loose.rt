@@ -1,51 +1,27 @@
 // Units with no order among them: nothing but the size of the whole draw is kept.
-ghost use Rattle.std.specs.Prelude.{◌≡◌, ◌<◌, ◌≤◌, MatchResult};
+ghost use Rattle.std.specs.Prelude.{refl};
 ghost use Rattle.structures.specs.Loose.{loose};
-ghost use Rattle.structures.specs.Lowest.{LowestFound};
-ghost use Rattle.terms.specs.Faults.{tells};
 
-use crate::limits::within_limit;
-use crate::lowest::two_lowest;
-use crate::structure::{Audited, Structure};
-use terms::{Fault, RangeNo, UnitNo};
+use crate::lowest_first::{KeptRanges, LowestFirst};
+use terms::{RangeNo, UnitNo};
 
-#[derive(Clone, Copy)]
-pub struct Loose {
-    units: u16,
-    ghost few: { units ≤ 1024 },
-}
+pub type Loose = LowestFirst<NoRanges>;
 
-impl Loose {
-    // The loose structure of this many units. More than 1,024 are refused.
-    pub fn new(units: u32) -> Result<Loose, Fault>
-        ensures answer { MatchResult result (λ made. (units ≤ 1024) × (made.units ≡ units)) (λ fault. (1024 < units) × (tells fault ≡ (17, 0))) }
-        ensures lowest { LowestFound }
-    {
-        let units = within_limit(units as usize)?;
-        Ok(Loose { units })
-    }
-}
+pub struct NoRanges;
 
-impl Structure for Loose {
-    ghost meaning = { λ made. loose made.units made.few };
+impl KeptRanges for NoRanges {
+    ghost meaning = { loose };
 
-    fn units(&self) -> u16 {
-        self.units
-    }
-
-    // The two lowest-numbered marked units, the lower first.
-    fn choice(&self, marks: &[u8]) -> Option<(UnitNo, UnitNo)> {
-        two_lowest(self.units, marks)
-    }
-}
-
-impl Audited for Loose {
     // There are none.
-    fn ranges(&self) -> u32 {
+    fn ranges(_units: u16) -> u32 {
         0
     }
 
-    fn holds(&self, _range: RangeNo, _unit: UnitNo) -> bool {
+    fn holds(_units: u16, _range: RangeNo, _unit: UnitNo) -> bool {
         false
     }
+
+    ghost has_units = { λ n few. refl };
+
+    ghost chooses_lowest = { λ n few J. refl };
 }
