@@ -1,126 +1,116 @@
--- One pass over the marks, which looks for the two lowest-numbered marked units.
-use Rattle.std.proofs.Common.{◌≡◌, ℕ, ◌+◌, ◌^◌, ◌<◌, ◌≤◌, true, false, List, ◌∷◌, length, get_or, drop, Some, None, Option, sym, ap, ◌∙◌, subst, inl, inr, add-zero, arith, Bor}
-use Rattle.std.proofs.lemmas.List.{drop-drop, get_or-drop, get_or_past, length-drop}
+-- One pass over the units, which stops at the marked ones.
+use Rattle.std.proofs.Common.{◌≡◌, ℕ, ◌+◌, ◌<◌, ◌≤◌, Bool, true, false, List, [], ◌∷◌, get_or, Some, None, Option, sym, ap, ◌∙◌, subst, inl, inr, arith, Bor}
 use Rattle.std.proofs.lemmas.Bool.{cases_eq, cases_lt, both_ways}
-use Rattle.std.specs.Iterator.Adapters.{take_source, take_count, enumerate_source, enumerate_count, take_steps, enumerate_steps}
-use Rattle.std.specs.Slice.Iter.{iter_rest, iter_steps}
-use Rattle.std.specs.declared.iter.Enumerate.{Enumerate}
-use Rattle.std.specs.declared.iter.Take.{Take}
-use Rattle.std.specs.declared.slice.Iter.{Iter}
+use Rattle.std.proofs.iter.Yields.{nat_range_steps}
+use Rattle.std.specs.Fn.{CalledAt}
+use Rattle.std.specs.Iterator.{Yields}
+use Rattle.std.specs.Iterator.Adapters.{filter_source, filter_callee, filter_steps}
+use Rattle.std.specs.List.{FoldsTo}
+use Rattle.std.specs.declared.iter.Filter.{Filter}
+use Rattle.std.specs.declared.ops.Range.{Range}
+use denote.Param.Members.{Mut}
 use Rattle.structures.specs.Lowest.{two_lowest}
 use Rattle.structures.specs.LowestLaws.{count_none, count_alone, none_from_few, some_from_pair}
 use Rattle.structures.specs.Marks.{marked}
 use Rattle.structures.specs.Meaning.{Units}
-use Rattle.structures.proofs.Marked.{marked_by, unmarked_by}
-use Rattle.terms.specs.declared.numbers.UnitNo.{UnitNo}
+use Rattle.structures.proofs.Marked.{is_mark, marked_here, unmarked_here}
 
--- A pass that has come to k has met at most one unit of the set, which it holds.
-abbrev pub Met : Units → ℕ → Option UnitNo → Type 0
-Met J k None = (c : ℕ) → c < k → J c ≡ false
-Met J k (Some a) = (a.0 < k) × (J a.0 ≡ true) × ((c : ℕ) → c < k → (c ≡ a.0 → ⊥) → J c ≡ false)
+-- No unit of the set is at a or above it, below n.
+abbrev NoneFrom : Units → ℕ → ℕ → Type 0
+NoneFrom J a n = (k : ℕ) → a ≤ k → k < n → J k ≡ false
 
--- It goes past what is not in the set,
-pub passed : (J : Units) (k m : ℕ) (o : Option UnitNo) → k ≤ m → ((c : ℕ) → k ≤ c → c < m → J c ≡ false) → Met J k o → Met J m o
-passed J k m None h free met = λ c l. elim (cases_lt c k) [ inl b ↦ met c b | inr b ↦ free c b l ]
-passed J k m (Some a) h free met =
-    (omega (arith, met.0), met.1, λ c l d. elim (cases_lt c k) [ inl b ↦ met.2 c b d | inr b ↦ free c b l ])
-
--- meets the first one,
-pub met_first : (J : Units) (k : ℕ) (a : UnitNo) → a.0 ≡ k → J k ≡ true → Met J k None → Met J (k + 1) (Some a)
-met_first J k a e t met = (omega arith, ap J e ∙ t, λ c l d. met c (omega arith))
-
--- ends at the second,
-pub met_second : (J : Units) (n k : ℕ) (a : UnitNo) → k < n → J k ≡ true → Met J k (Some a) → two_lowest J n ≡ Some (a.0, k)
-met_second J n k a h t met = some_from_pair J n a.0 k (record {
-  ordered = met.0;
-  bounded = h;
-  first_in = met.1;
-  second_in = t;
-  others_above = λ c e. elim (cases_eq c a.0) [
-    | inl same ↦ inl same
-    | inr d ↦ inr (elim (cases_lt c k) [ inl l ↦ absurd (both_ways (J c) (met.2 c l d) e) | inr ge ↦ ge ])
-  ];
-})
-
--- or ends with none left.
-pub met_none : (J : Units) (n : ℕ) (o : Option UnitNo) → Met J n o → two_lowest J n ≡ None
-met_none J n None met = none_from_few J n (omega (arith, count_none J n met))
-met_none J n (Some a) met = none_from_few J n (count_alone J n a.0 met.2)
-
--- Past the last byte nothing is marked.
-pub unmarked_past : (n : ℕ) (bytes : List ℕ) (k : ℕ) → length (drop k bytes) ≡ 0 → (c : ℕ) → k ≤ c → marked n bytes c ≡ false
-unmarked_past n bytes k e c h = unmarked_by n bytes c (get_or_past bytes c 0 (omega (arith, length-drop k bytes)))
-
--- The marks, each with its number, as many as there are units.
-abbrev pub MarksReader : Type 0
-MarksReader = Take (Enumerate (Iter ℕ))
-
-abbrev pub position : MarksReader → ℕ
-position it = enumerate_count (take_source it)
-
-abbrev pub left : MarksReader → List ℕ
-left it = iter_rest (enumerate_source (take_source it))
-
-abbrev pub Reads : MarksReader → Option (ℕ × Bor ℕ) → MarksReader → Type 0
-Reads = take_steps (enumerate_steps iter_steps)
-
--- How far a pass has come, and what it has met.
-pub record State (n : ℕ) (bytes : List ℕ) (it : MarksReader) (o : Option UnitNo) : Type 0 where
-  pub fits : position it + length (left it) < 2 ^ 64
-  pub rest : left it ≡ drop (position it) bytes
-  pub limit : take_count it + position it ≡ n
-  pub met : Met (marked n bytes) (position it) o
-
-module _ (n : ℕ) (bytes : List ℕ) (it next : MarksReader) (i : ℕ) (mark : Bor ℕ) (reads : Reads it (Some (i, mark)) next) where
+-- The pass asks f of each unit in turn, which tells whether its byte marks.
+module _ {F : Type 0} {g : Mut F (Bor ℕ × Unit {0}) Bool} (n : ℕ) (bytes : List ℕ) (f : F)
+    (tells : (i : ℕ) (b : Bool) (q : F) → CalledAt g f i b q → (q ≡ f) × (b ≡ is_mark (get_or bytes i 0))) where
   abbrev J : Units
   J = marked n bytes
 
-  -- What is left starts with the byte that the turn reads,
-  ahead : left it ≡ drop (position it) bytes → drop i bytes ≡ mark.now ∷ left next
-  ahead rest = ap (λ k. drop k bytes) reads.0.1 ∙ sym rest ∙ reads.0.0
+  abbrev Asks : F → List ℕ → F → Type 0
+  Asks = FoldsTo (λ p i q. CalledAt g p i false q)
 
-  -- which is the byte of unit i,
-  here : (o : Option UnitNo) → State n bytes it o → get_or bytes i 0 ≡ mark.now
-  here o s = ap (λ k. get_or bytes k 0) (sym (add-zero i)) ∙ sym (get_or-drop i bytes 0 0) ∙ ap (λ xs. get_or xs 0 0) (ahead s.rest)
+  abbrev Turn : Filter (Range ℕ) F → Option ℕ → Filter (Range ℕ) F → Type 0
+  Turn = filter_steps nat_range_steps g
 
-  -- and marks it unless it is 0.
-  marks : (o : Option UnitNo) → State n bytes it o → (mark.now ≡ 0 → ⊥) → J i ≡ true
-  marks o s d = marked_by n bytes i (omega (arith, s.limit)) (λ e. d (sym (here o s) ∙ e))
+  -- What a turn goes past is not marked.
+  past : (xs : List ℕ) (s t : Range ℕ) (q : F) → Yields nat_range_steps s xs t → Asks f xs q →
+      (q ≡ f) × (t.end ≡ s.end) × (s.start ≤ t.start) × NoneFrom J s.start t.start
+  past [] s t q y e =
+      let same : s.start ≡ t.start = ap (λ (k : Range ℕ). k.start) y in
+      (sym e, ap (λ (k : Range ℕ). k.end) (sym y), omega (arith, same), λ k l h. absurd (omega (arith, same)))
+  past (i ∷ xs) s t q y e =
+      let told = tells i false e.0 e.1 in
+      let on = past xs y.0 t q y.2 (subst (λ p. Asks p xs q) told.0 e.2) in (
+        on.0,
+        on.1 ∙ y.1.0,
+        omega (arith, y.1.1.2, on.2),
+        λ k l h. elim (cases_eq k i) [
+          | inl same ↦ ap J same ∙ unmarked_here n bytes i told.1
+          | inr d ↦ on.3 k (omega (arith, y.1.1.1, y.1.1.2)) h
+        ],
+      )
 
-  -- The turn starts at i,
-  come : (o : Option UnitNo) → State n bytes it o → Met J i o
-  come o s = subst (λ k. Met J k o) (sym reads.0.1) s.met
+  -- A pass that has come to unit a.
+  abbrev At : Filter (Range ℕ) F → ℕ → Type 0
+  At s a = (filter_source s ≡ record { start = a; end = n }) × (filter_callee s ≡ f)
 
-  -- and what it makes of what was met, the pass goes on with.
-  onward : (o p : Option UnitNo) → State n bytes it o → Met J (i + 1) p → State n bytes next p
-  onward o p s met = record {
-    fits = omega (arith, ap length reads.0.0, s.fits);
-    rest = sym (ap (drop 1) (ahead s.rest)) ∙ drop-drop 1 i bytes ∙ ap (λ k. drop k bytes) after;
-    limit = omega (arith, s.limit);
-    met = subst (λ k. Met J k p) after met;
-  }
-    where
-      after : i + 1 ≡ position next
-      after = omega arith
+  module _ (s u : Filter (Range ℕ) F) (a : ℕ) (at : At s a) where
+    turn : (r : Option ℕ) (d : Turn s r u) → (d.1 ≡ f) × (d.2.0.end ≡ n) × (a ≤ d.2.0.start) × NoneFrom J a d.2.0.start
+    turn r d =
+        let p = past d.0 (filter_source s) d.2.0 d.1 d.2.1 (subst (λ q. Asks q d.0 d.1) at.1 d.3) in
+        let start : (filter_source s).start ≡ a = ap (λ q. q.start) at.0 in
+        (p.0, p.1 ∙ ap (λ q. q.end) at.0, omega (arith, start, p.2), λ k l h. p.3 k (omega (arith, start)) h)
 
-  -- A turn over the byte 0,
-  pub over_zero : (o : Option UnitNo) → State n bytes it o → mark.now ≡ 0 → State n bytes next o
-  over_zero o s e = onward o o s (passed J i (i + 1) o (omega arith)
-      (λ c low high. ap J (omega arith) ∙ unmarked_by n bytes i (here o s ∙ e)) (come o s))
+    -- Its last turn leaves no unit behind,
+    ended : Turn s None u → NoneFrom J a n
+    ended d = let p = turn None d in λ k l h. p.3 k l (omega (arith, p.1, d.2.2.1.0))
 
-  -- over the first byte that marks,
-  pub over_first : (o : Option UnitNo) (a : UnitNo) → o ≡ None → a.0 ≡ i → State n bytes it o → (mark.now ≡ 0 → ⊥) →
-      State n bytes next (Some a)
-  over_first o a none e s d = onward o (Some a) s (met_first J i a e (marks o s d) (subst (Met J i) none (come o s)))
+    -- and any other stops at the next marked one.
+    stopped : (i : ℕ) → Turn s (Some i) u → (a ≤ i) × (i < n) × (J i ≡ true) × NoneFrom J a i × At u (i + 1)
+    stopped i d =
+        let p = turn (Some i) d in
+        let step = d.2.2 in
+        let here : i ≡ d.2.0.start = step.1.1 in
+        let told = tells i true (filter_callee u) (subst (λ q. CalledAt g q i true (filter_callee u)) p.0 d.4) in
+        let below : i < n = omega (arith, p.1, step.1.0, here) in
+        let start : (filter_source u).start ≡ i + 1 = omega (arith, step.1.2, here) in
+        let end : (filter_source u).end ≡ n = step.0 ∙ p.1 in (
+          omega (arith, p.2, here),
+          below,
+          marked_here n bytes i below told.1,
+          λ k l h. p.3 k l (omega (arith, here)),
+          ((λ x. record { start = start x; end = end x }), told.0),
+        )
 
-  -- and over the second, which ends the pass.
-  pub over_second : (o : Option UnitNo) (a : UnitNo) → o ≡ Some a → State n bytes it o → (mark.now ≡ 0 → ⊥) →
-      two_lowest J n ≡ Some (a.0, i)
-  over_second o a some s d = met_second J n i a (omega (arith, s.limit)) (marks o s d) (subst (Met J i) some (come o s))
+  module _ (s t : Filter (Range ℕ) F) (at : At s 0) where
+    -- A pass that never stops finds no unit,
+    pub finds_none : Turn s None t → two_lowest J n ≡ None
+    finds_none d = none_from_few J n (omega (arith, count_none J n (λ c h. ended s t 0 at d c (omega arith) h)))
 
--- A pass also ends after the last byte or the last unit, and has met no pair.
-pub over_none : (n : ℕ) (bytes : List ℕ) (it next : MarksReader) (o : Option UnitNo) → State n bytes it o → Reads it None next →
-    two_lowest (marked n bytes) n ≡ None
-over_none n bytes it next o s ends = met_none (marked n bytes) n o (passed (marked n bytes) (position it) n o (omega (arith, s.limit))
-    (λ c low high. unmarked_past n bytes (position it)
-    (sym (ap length s.rest) ∙ (ends (omega (arith, s.limit))).0.0) c low) s.met)
+    -- one that stops once finds a unit alone,
+    pub finds_one : (u : Filter (Range ℕ) F) (a : ℕ) → Turn s (Some a) t → Turn t None u → two_lowest J n ≡ None
+    finds_one u a d e =
+        let first = stopped s t 0 at a d in
+        none_from_few J n (count_alone J n a (λ c h ne. elim (cases_lt c a) [
+          | inl l ↦ first.3 c (omega arith) l
+          | inr ge ↦ ended t u (a + 1) first.4 e c (omega (arith, ne)) h
+        ]))
+
+    -- and one that stops twice finds the pair.
+    pub finds_two : (u : Filter (Range ℕ) F) (a b : ℕ) → Turn s (Some a) t → Turn t (Some b) u → two_lowest J n ≡ Some (a, b)
+    finds_two u a b d e =
+        let first = stopped s t 0 at a d in
+        let second = stopped t u (a + 1) first.4 b e in
+        let between : (c : ℕ) → (c ≡ a → ⊥) → c < b → J c ≡ false = λ c ne l. elim (cases_lt c a) [
+          | inl low ↦ first.3 c (omega arith) low
+          | inr ge ↦ second.3 c (omega (arith, ne)) l
+        ] in
+        some_from_pair J n a b (record {
+          ordered = omega (arith, second.0);
+          bounded = second.1;
+          first_in = first.2;
+          second_in = second.2;
+          others_above = λ c k. elim (cases_eq c a) [
+            | inl same ↦ inl same
+            | inr ne ↦ inr (elim (cases_lt c b) [ inl l ↦ absurd (both_ways (J c) (between c ne l) k) | inr ge ↦ ge ])
+          ];
+        })

@@ -11,20 +11,20 @@ use std::alloc::AllocError;
 use std::marker::PhantomData;
 use terms::{Fault, RangeNo, UnitNo};
 
-// Which ranges are kept over any number of units, with the proof that settling from the lowest
-// number on keeps them.
+// The ranges that are kept over any number of units.
 pub trait KeptRanges {
-    // What so many units mean with these ranges.
+    // What so many units and their ranges mean, with the laws of a structure.
     ghost meaning: { (n : ℕ) → n ≤ 1024 → Meaning };
 
     // How many ranges there are.
     fn ranges(units: u16) -> u32
         ensures { (few : units ≤ 1024) → result ≡ (meaning units few).ranges };
 
-    // Whether the range holds the unit.
+    // Whether the range holds the unit; outside the numbers it does not.
     fn holds(units: u16, range: RangeNo, unit: UnitNo) -> bool
         ensures { (few : units ≤ 1024) → result ≡ (meaning units few).range range.0 unit.0 };
 
+    // There are n units, and the two lowest-numbered marked ones are the pair.
     ghost has_units: { (n : ℕ) (few : n ≤ 1024) → (meaning n few).units ≡ n };
 
     ghost chooses_lowest: { (n : ℕ) (few : n ≤ 1024) (J : Units) → (meaning n few).choice J ≡ two_lowest J n };
@@ -36,7 +36,7 @@ pub struct LowestFirst<K> {
     ghost few: { units ≤ 1024 },
 }
 
-// By hand: no copy is derived for a type parameter beside a ghost field.
+// By hand: with a ghost field and a type parameter, no copy can be derived.
 impl<K> Clone for LowestFirst<K> {
     ghost is_clone = { λ made copied. copied ≡ made };
 
@@ -57,7 +57,10 @@ impl<K: KeptRanges> LowestFirst<K> {
         ensures lowest { LowestFound }
     {
         let units = within_limit(units as usize)?;
-        Ok(LowestFirst { units, kept: PhantomData })
+        Ok(LowestFirst {
+            units,
+            kept: PhantomData,
+        })
     }
 }
 

@@ -29,22 +29,17 @@ fn check_choice<S: Structure>(
     marks: &[u8],
     wanted: Option<(u16, u16)>,
 ) {
-    let chosen = match structure.choice(marks) {
-        Some((first, second)) => Some((first.0, second.0)),
-        None => None,
-    };
-    assert_eq!(rt; chosen, wanted);
+    let chosen = structure.choice(marks);
+    assert_eq!(rt; chosen.map(|(first, second)| (first.0, second.0)), wanted);
 }
 
-fn check_refused<S: Drop>(rt: &impl Abort, made: Result<S, Fault>) -> Result<(), Fail> {
-    match made {
-        Ok(_) => Err(Fail::new("more than 1,024 units were taken")),
-        Err(fault) => {
-            assert_eq!(rt; fault.number(), 17);
-            assert_eq!(rt; fault.place(), 0);
-            Ok(())
-        }
+// Which of the first N units the range holds.
+fn held<S: Audited, const N: usize>(structure: &S, range: u32) -> [bool; N] {
+    let mut answers = [false; N];
+    for (unit, answer) in (0..1024).zip(answers.iter_mut()) {
+        *answer = structure.holds(RangeNo(range), UnitNo(unit));
     }
+    answers
 }
 
 // The choice among three units, whatever else the structure keeps.
@@ -60,39 +55,39 @@ fn check_three<S: Structure>(rt: &impl Abort, three: &S) {
 #[test]
 fn sizes(rt: HostRuntime) -> Result<(), Fail> {
     for n in [0, 1, 2, 1024] {
-        let line = taken(Line::new(n))?;
+        let line = Line::new(n)?;
         assert_eq!(rt; line.units() as u32, n);
         assert_eq!(rt; line.ranges(), n);
-        let loose = taken(Loose::new(n))?;
+        let loose = Loose::new(n)?;
         assert_eq!(rt; loose.units() as u32, n);
         assert_eq!(rt; loose.ranges(), 0);
     }
-    check_refused(&rt, Line::new(1025))?;
-    check_refused(&rt, Loose::new(1025))
+    assert_eq!(rt; Line::new(1025).map_err(Fault::tells).err(), Some((17, 0)));
+    assert_eq!(rt; Loose::new(1025).map_err(Fault::tells).err(), Some((17, 0)));
+    Ok(())
 }
 
 #[test]
 fn choices(rt: HostRuntime) -> Result<(), Fail> {
-    check_choice(&rt, &taken(Line::new(0))?, &[1, 1], None);
-    check_choice(&rt, &taken(Line::new(1))?, &[1, 1], None);
-    check_three(&rt, &taken(Line::new(3))?);
-    check_three(&rt, &taken(Loose::new(3))?);
+    check_choice(&rt, &Line::new(0)?, &[1, 1], None);
+    check_choice(&rt, &Line::new(1)?, &[1, 1], None);
+    check_three(&rt, &Line::new(3)?);
+    check_three(&rt, &Loose::new(3)?);
     let mut marks = [0; 1024];
     marks[5] = 1;
     marks[1023] = 1;
-    check_choice(&rt, &taken(Line::new(1024))?, &marks, Some((5, 1023)));
+    check_choice(&rt, &Line::new(1024)?, &marks, Some((5, 1023)));
     Ok(())
 }
 
 #[test]
 fn ranges(rt: HostRuntime) -> Result<(), Fail> {
-    let line = taken(Line::new(3))?;
-    assert!(rt; line.holds(RangeNo(0), UnitNo(0)));
-    assert!(rt; !line.holds(RangeNo(0), UnitNo(1)));
+    let line = Line::new(3)?;
+    assert_eq!(rt; held(&line, 0), [true, false]);
     assert!(rt; line.holds(RangeNo(2), UnitNo(2)));
     assert!(rt; !line.holds(RangeNo(3), UnitNo(0)));
     assert!(rt; !line.holds(RangeNo(3), UnitNo(3)));
-    let loose = taken(Loose::new(3))?;
+    let loose = Loose::new(3)?;
     assert!(rt; !loose.holds(RangeNo(0), UnitNo(0)));
     Ok(())
 }
