@@ -21,10 +21,7 @@ pub fn draw_below<W: WordSource>(words: &mut W, bound: u64) -> Result<u32, Fault
     }
     let limit = span / bound * bound;
     for read in 0..MAX_WORDS {
-        let Some(word) = words.next_word() else {
-            return Err(Fault::WordsEnded(read));
-        };
-        let word = word as u64;
+        let word = words.next_word().ok_or(Fault::WordsEnded(read))? as u64;
         if word < limit {
             return Ok((word % bound) as u32);
         }
