@@ -20,10 +20,10 @@ impl Held {
     {
         match self {
             Held::Nothing => Held::One(unit),
-            Held::One(only) if unit.0 < only.0 => Held::Two(unit, only),
+            Held::One(only) if unit < only => Held::Two(unit, only),
             Held::One(only) => Held::Two(only, unit),
-            Held::Two(first, _) if unit.0 < first.0 => Held::Two(unit, first),
-            Held::Two(first, second) if unit.0 < second.0 => Held::Two(first, unit),
+            Held::Two(first, _) if unit < first => Held::Two(unit, first),
+            Held::Two(first, second) if unit < second => Held::Two(first, unit),
             Held::Two(first, second) => Held::Two(first, second),
         }
     }
