@@ -1,6 +1,6 @@
 // Filling a tree, and asking it.
 ghost use Rattle.std.specs.Prelude.{◌≡◌, ℕ, ◌≤◌, true, [], length, is_err, IfErr, MatchResult};
-ghost use Rattle.structures.specs.Drainage.{node_at, InOrder, FirstBroken, Housed, FirstHomeless, CatchmentsAreDrained};
+ghost use Rattle.structures.specs.Drainage.{node_at, falls, InOrder, FirstBroken, Housed, FirstHomeless, CatchmentsAreDrained};
 ghost use Rattle.structures.specs.Extremes.{HighestFound};
 ghost use Rattle.structures.specs.Held.{Kept};
 ghost use Rattle.structures.specs.Lowest.{LowestFound};
@@ -16,24 +16,31 @@ use crate::tree::held::Held;
 use std::alloc::Global;
 use terms::{Fault, NodeNo, RangeNo, UnitNo};
 
-// Refuses the first node whose parent breaks the rule: node 0 is its own parent, and any other node
-// drains into one with a smaller number.
+// The rule for the parent of a node: node 0 is its own, and any other node drains into one with a
+// smaller number.
+fn falls(node: NodeNo, parent: NodeNo) -> bool
+    ensures { result ≡ falls node.0 parent.0 }
+{
+    if node == NodeNo(0) {
+        parent == node
+    } else {
+        parent < node
+    }
+}
+
+// Refuses the first node whose parent breaks the rule.
 fn check_parents(parents: &[NodeNo]) -> Result<(), Fault>
     requires { length parents.now ≤ 1024 }
     ensures { MatchResult result (λ _. InOrder parents.now) (λ fault. ((v : ℕ) × FirstBroken parents.now v × (tells fault ≡ (18, v)))) }
 {
-    for (i, parent) in parents.iter().enumerate() {
-        let node = NodeNo(i as u16);
-        let falls = if node.0 == 0 {
-            parent.0 == 0
-        } else {
-            parent.0 < node.0
-        };
-        if !falls {
-            return Err(Fault::ParentOutOfOrder(node));
-        }
+    let broken = parents
+        .iter()
+        .enumerate()
+        .position(|(node, parent)| !falls(NodeNo(node as u16), *parent));
+    match broken {
+        Some(node) => Err(Fault::ParentOutOfOrder(NodeNo(node as u16))),
+        None => Ok(()),
     }
-    Ok(())
 }
 
 // Refuses the first unit whose home is not one of so many nodes.
@@ -41,12 +48,10 @@ fn check_homes(nodes: usize, homes: &[NodeNo]) -> Result<(), Fault>
     requires { length homes.now ≤ 1024 }
     ensures { MatchResult result (λ _. Housed nodes homes.now) (λ fault. ((i : ℕ) × FirstHomeless nodes homes.now i × (tells fault ≡ (19, i)))) }
 {
-    for (i, home) in homes.iter().enumerate() {
-        if home.0 as usize >= nodes {
-            return Err(Fault::HomeTooHigh(UnitNo(i as u16)));
-        }
+    match homes.iter().position(|home| home.0 as usize >= nodes) {
+        Some(unit) => Err(Fault::HomeTooHigh(UnitNo(unit as u16))),
+        None => Ok(()),
     }
-    Ok(())
 }
 
 impl Tree {
