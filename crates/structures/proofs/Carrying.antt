@@ -92,10 +92,6 @@ module _ (J : Units) (parents homes : List NodeNo) (ok : Drainage parents homes)
     passed = λ r high below. absurd (omega arith);
   }
 
-  -- has a node to come to while any is left,
-  pub turn : (m : ℕ) (held : List Held) → 0 < m → At m held → At (suc (m - 1)) held
-  turn m held some s = let next : m ≡ suc (m - 1) = omega arith in subst (λ k. At k held) next s
-
   module _ (w : ℕ) (held : List Held) (s : At (suc w) held) where
     -- at node w it has just the marked units of its catchment,
     at_catchment : (i : ℕ) → at_node J s.place w i ≡ both J (range w) i

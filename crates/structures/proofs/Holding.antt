@@ -2,7 +2,7 @@
 use Rattle.std.proofs.Common.{◌≡◌, ℕ, ◌+◌, ◌<◌, ◌≤◌, true, false, eqb, ltb, List, get_or, set, replicate, sym, ap, ◌∙◌, subst, inl, inr, arith}
 use mathlib.Core.Path.{fun_ext}
 use Rattle.std.proofs.lemmas.List.{get_or-set_same, get_or-set_other, get_or-replicate, length-set, length-replicate}
-use Rattle.std.proofs.lemmas.Bool.{cases_eq, both_ways, and_parts, and_from, and_left, or_cases, or_left, or_right, le-ltb, lt-ltb, ltb-true, eq-eqb, eqb-true}
+use Rattle.std.proofs.lemmas.Bool.{cases_eq, cases_lt, both_ways, and_parts, and_from, and_left, or_cases, or_left, or_right, le-ltb, lt-ltb, ltb-true, eq-eqb, eqb-true}
 use Rattle.terms.proofs.Totals.{same_test}
 use Rattle.structures.specs.Held.{Keeps, joined, at_node, Kept}
 use Rattle.structures.specs.Marks.{marked}
@@ -116,3 +116,14 @@ module _ (place : ℕ → ℕ) (n : ℕ) where
         kept_same (joined k (marked k bytes)) (marked (k + 1) bytes) 1024 (set held (place k) after) (more_marks k here)
         (kept_more (marked k bytes) 1024 k held after (omega arith) below
         (and_left (ltb k k) (is_mark (get_or bytes k 0)) (le-ltb k k (omega arith))) takes kept)
+
+    -- Past the last home and the last mark nothing is left to give.
+    pub held_all : (k : ℕ) (held : List Held) → k ≤ n → ((c : ℕ) → k ≤ c → marked n bytes c ≡ false) → Kept (marked k bytes) place n 1024 held →
+        Kept (marked n bytes) place n 1024 held
+    held_all k held few rest = kept_same (marked k bytes) (marked n bytes) 1024 held (λ i. same_test (marked k bytes i) (marked n bytes i)
+        (λ e. let p = and_parts (ltb i k) (is_mark (get_or bytes i 0)) e in
+        and_from (ltb i n) (is_mark (get_or bytes i 0)) (lt-ltb i n (omega (arith, ltb-true i k p.0))) p.1)
+        (λ e. elim (cases_lt i k) [
+          | inl l ↦ and_from (ltb i k) (is_mark (get_or bytes i 0)) (lt-ltb i k l) (and_parts (ltb i n) (is_mark (get_or bytes i 0)) e).1
+          | inr past ↦ absurd (both_ways (marked n bytes i) (rest i past) e)
+        ]))

@@ -1,4 +1,5 @@
 pub mod Marked
+pub mod Reading
 pub mod Pass
 pub mod Holding
 pub mod Carrying

@@ -6,7 +6,6 @@ mod line;
 mod loose;
 mod lowest;
 mod lowest_first;
-mod marks;
 mod strata;
 mod structure;
 #[cfg(test)]

@@ -10,7 +10,6 @@ ghost use Rattle.structures.specs.StrataLaws.{layer};
 ghost use Rattle.terms.specs.Counts.{count as counted};
 ghost use Rattle.terms.specs.Faults.{tells};
 
-use crate::marks::is_marked;
 use crate::strata::Strata;
 use crate::structure::{Audited, Structure};
 use std::alloc::Global;
@@ -50,10 +49,8 @@ impl<B: Audited> Strata<B> {
         if count == 0 || count > MAX_STRATA || strata.len() != self.below.units() as usize {
             return Err(Fault::StrataOutOfRange);
         }
-        for (unit, stratum) in strata.iter().enumerate() {
-            if stratum.0 as u32 >= count {
-                return Err(Fault::StratumTooHigh(UnitNo(unit as u16)));
-            }
+        if let Some(unit) = strata.iter().position(|stratum| stratum.0 as u32 >= count) {
+            return Err(Fault::StratumTooHigh(UnitNo(unit as u16)));
         }
         if count as u64 * self.width() > MAX_RANGES {
             return Err(Fault::TooManyRanges);
@@ -77,11 +74,7 @@ impl<B: Audited> Strata<B> {
     fn stratum_of(&self, unit: usize) -> StratumNo
         ensures { result.0 ≡ stratum_at self.now.strata.items unit }
     {
-        if unit < self.strata.len() {
-            self.strata[unit]
-        } else {
-            StratumNo(0)
-        }
+        self.strata.get(unit).copied().unwrap_or(StratumNo(0))
     }
 
     // How many marked units each stratum has, with a place for every stratum that there can be.
@@ -90,8 +83,8 @@ impl<B: Audited> Strata<B> {
         ensures counts { (u : ℕ) → u < 64 → slice_index result u ≡ counted (both (marked (B.Structure.meaning self.now.below).units marks.now) (of_stratum (stratum_at self.now.strata.items) u)) (B.Structure.meaning self.now.below).units }
     {
         let mut counts = [0u16; 64];
-        for unit in 0..self.below.units() as usize {
-            if is_marked(marks, unit) {
+        for (unit, mark) in marks.iter().enumerate().take(self.below.units() as usize) {
+            if *mark != 0 {
                 counts[self.stratum_of(unit).0 as usize] += 1;
             }
         }
@@ -102,13 +95,11 @@ impl<B: Audited> Strata<B> {
     fn lowest_with_two(&self, marks: &[u8]) -> Option<StratumNo>
         ensures { option_map (λ found. found.0) result ≡ lowest (stratum_has_two (B.Structure.meaning self.now.below) (stratum_at self.now.strata.items) (marked (B.Structure.meaning self.now.below).units marks.now)) self.now.count }
     {
-        let counts = self.counts(marks);
-        for stratum in 0..self.count {
-            if counts[stratum as usize] >= 2 {
-                return Some(StratumNo(stratum));
-            }
-        }
-        None
+        self.counts(marks)
+            .iter()
+            .take(self.count as usize)
+            .position(|marked| *marked >= 2)
+            .map(|stratum| StratumNo(stratum as u8))
     }
 }
 
@@ -127,9 +118,10 @@ impl<B: Audited> Structure for Strata<B> {
         };
         // What is lent below marks the units of this stratum alone.
         let mut masked = [0u8; 1024];
-        for unit in 0..self.below.units() as usize {
-            let kept = is_marked(marks, unit) && self.stratum_of(unit).0 == stratum.0;
-            masked[unit] = kept as u8;
+        for (unit, mark) in marks.iter().enumerate().take(self.below.units() as usize) {
+            if *mark != 0 && self.stratum_of(unit) == stratum {
+                masked[unit] = 1;
+            }
         }
         self.below.choice(&masked)
     }

@@ -9,7 +9,6 @@ ghost use Rattle.structures.specs.Tree.{tree, Filled};
 ghost use Rattle.terms.specs.Faults.{tells};
 
 use crate::limits::within_limit;
-use crate::marks::is_marked;
 use crate::structure::{Audited, Structure};
 use crate::tree::Tree;
 use crate::tree::held::Held;
@@ -97,8 +96,8 @@ impl Tree {
         ensures { Kept (marked (length self.now.homes.items) marks.now) (node_at self.now.homes.items) (length self.now.homes.items) 1024 result }
     {
         let mut held = [Held::Nothing; 1024];
-        for (i, home) in self.homes.iter().enumerate() {
-            if is_marked(marks, i) {
+        for (i, (home, mark)) in self.homes.iter().zip(marks).enumerate() {
+            if *mark != 0 {
                 let node = home.0 as usize;
                 held[node] = held[node].with(UnitNo(i as u16));
             }
@@ -118,8 +117,8 @@ impl Structure for Tree {
     // The root comes last, so what it carries into itself is not met again.
     fn choice(&self, marks: &[u8]) -> Option<(UnitNo, UnitNo)> {
         let mut held = self.at_homes(marks);
-        for node in (0..self.parents.len()).rev() {
-            let parent = self.parents[node].0 as usize;
+        for (node, parent) in self.parents.iter().enumerate().rev() {
+            let parent = parent.0 as usize;
             match held[node] {
                 Held::Nothing => {}
                 Held::One(unit) => held[parent] = held[parent].with(unit),

@@ -1,37 +1,19 @@
-use Rattle.std.proofs.Common.{◌≡◌, ◌<◌, true, false, Some, None, arith, below_more}
+use Rattle.std.proofs.Common.{◌≡◌, ℕ, ◌<◌, ◌≤◌, get_or, ◌∙◌, arith, rules}
+use Rattle.std.specs.Option.{MatchOption, option_map}
 use Rattle.structures.specs.Marks.{marked}
-use Rattle.structures.specs.SetLaws.{two_told, few_told}
-use Rattle.structures.specs.Sets.{both}
-use Rattle.structures.specs.Strata.{stratum_at, of_stratum, stratum_has_two}
-use Rattle.structures.specs.ExtremeLaws.{lowest_is}
+use Rattle.structures.specs.Strata.{stratum_at}
+use Rattle.structures.proofs.Tallies.{lowest_told}
+use Rattle.terms.specs.declared.numbers.StratumNo.{StratumNo}
 use Rattle.structures.proofs.strata.Strata.lowest_with_two.Goals as goal
-
-pub loop-stratum-preserved : goal.loop-stratum-preserved
-loop-stratum-preserved g c =
-    let self = c.args.self.now in
-    let M = g.B.Structure.meaning self.below in
-    let J = marked M.units c.args.marks.now in
-    let stratum = stratum_at self.strata.items in
-    let u = c.loop-stratum.stratum in
-    let few : u < 64 = omega (arith, self.ok.1) in
-    below_more (λ k. stratum_has_two M stratum J k ≡ false) u c.loop-stratum.invariant (few_told (both J (of_stratum stratum u)) M.units
-    (omega (arith, c.counts-counts.ensures.counts u few, c.if-counts-stratum-ge2.false)))
-
-pub returns-then-counts-stratum-ge2 : goal.returns-then-counts-stratum-ge2
-returns-then-counts-stratum-ge2 g c =
-    let self = c.args.self.now in
-    let M = g.B.Structure.meaning self.below in
-    let J = marked M.units c.args.marks.now in
-    let stratum = stratum_at self.strata.items in
-    let u = c.loop-stratum.stratum in
-    let few : u < 64 = omega (arith, self.ok.1) in
-    let two : stratum_has_two M stratum J u ≡ true = two_told (both J (of_stratum stratum u)) M.units
-    (omega (arith, c.counts-counts.ensures.counts u few, c.if-counts-stratum-ge2.true)) in
-    lowest_is (stratum_has_two M stratum J) self.count (Some u) (c.loop-stratum-test.true, two, c.loop-stratum.invariant)
 
 pub returns : goal.returns
 returns g c =
     let self = c.args.self.now in
     let M = g.B.Structure.meaning self.below in
-    lowest_is (stratum_has_two M (stratum_at self.strata.items) (marked M.units c.args.marks.now)) self.count None
-    (λ k h. c.loop-stratum.invariant k (omega arith))
+    let t = self.count in
+    let counts = c.counts.result in
+    let first : MatchOption c.position.result ((k : ℕ) → k < t → get_or counts k 0 < 2)
+        (λ u. (u < t) × (2 ≤ get_or counts u 0) × ((k : ℕ) → k < u → get_or counts k 0 < 2)) = search rules in
+    let same : option_map (λ (s : StratumNo). s.0) c.map.result ≡ c.position.result = search rules in
+    same ∙ lowest_told M (stratum_at self.strata.items) (marked M.units c.args.marks.now) t counts (omega (arith, self.ok.1))
+    c.counts.ensures.counts c.position.result first
