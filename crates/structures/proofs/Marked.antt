@@ -1,10 +1,10 @@
--- What a list of marks says of one unit.
-use Rattle.std.proofs.Common.{◌≡◌, ℕ, ◌<◌, ◌≤◌, Bool, true, false, not, eqb, ltb, List, get_or, sym}
+-- What a byte says, and a list of marks, of one unit.
+use Rattle.std.proofs.Common.{◌≡◌, ℕ, ◌<◌, ◌≤◌, Bool, true, false, not, eqb, ltb, List, get_or}
 use Rattle.std.proofs.lemmas.Bool.{and_parts, and_from, and_left, and_right, not_from_true, not_from_false, lt-ltb, le-ltb, ltb-true, eq-eqb, ne_eqb}
 use Rattle.structures.specs.Marks.{marked}
 use Rattle.terms.specs.Counts.{Within}
 
--- Whether a byte marks.
+-- Whether a byte marks: it does unless it is 0.
 abbrev pub is_mark : ℕ → Bool
 is_mark byte = not (eqb byte 0)
 
@@ -14,19 +14,12 @@ byte_marks byte some = not_from_false (eqb byte 0) (ne_eqb byte 0 some)
 pub byte_leaves : (byte : ℕ) → byte ≡ 0 → is_mark byte ≡ false
 byte_leaves byte none = not_from_true (eqb byte 0) (eq-eqb byte 0 none)
 
--- A unit is marked by its byte,
-pub marked_here : (n : ℕ) (bytes : List ℕ) (i : ℕ) → i < n → true ≡ is_mark (get_or bytes i 0) → marked n bytes i ≡ true
-marked_here n bytes i h e = and_from (ltb i n) (is_mark (get_or bytes i 0)) (lt-ltb i n h) (sym e)
-
-pub unmarked_here : (n : ℕ) (bytes : List ℕ) (i : ℕ) → false ≡ is_mark (get_or bytes i 0) → marked n bytes i ≡ false
-unmarked_here n bytes i e = and_right (ltb i n) (is_mark (get_or bytes i 0)) (sym e)
-
--- unless that is 0,
+-- A unit is marked by its byte, unless that is 0,
 pub marked_by : (n : ℕ) (bytes : List ℕ) (i : ℕ) → i < n → (get_or bytes i 0 ≡ 0 → ⊥) → marked n bytes i ≡ true
-marked_by n bytes i h d = marked_here n bytes i h (sym (byte_marks (get_or bytes i 0) d))
+marked_by n bytes i h some = and_from (ltb i n) (is_mark (get_or bytes i 0)) (lt-ltb i n h) (byte_marks (get_or bytes i 0) some)
 
 pub unmarked_by : (n : ℕ) (bytes : List ℕ) (i : ℕ) → get_or bytes i 0 ≡ 0 → marked n bytes i ≡ false
-unmarked_by n bytes i e = unmarked_here n bytes i (sym (byte_leaves (get_or bytes i 0) e))
+unmarked_by n bytes i none = and_right (ltb i n) (is_mark (get_or bytes i 0)) (byte_leaves (get_or bytes i 0) none)
 
 -- and only below n.
 pub unmarked_from : (n : ℕ) (bytes : List ℕ) (i : ℕ) → n ≤ i → marked n bytes i ≡ false

@@ -1,6 +1,6 @@
 -- Reading marks from the front, each with the number of its unit, and parents from the back, each with the number of its node.
-use Rattle.std.proofs.Common.{◌≡◌, ℕ, suc, ◌+◌, ◌^◌, ◌<◌, ◌≤◌, true, false, List, [], ◌∷◌, ◌++◌, append-nil, length, get_or, drop, Some, None, Option, sym, ap, ◌∙◌, refl, inl, inr, add-zero, append_assoc, arith, Bor}
-use Rattle.std.proofs.lemmas.List.{drop-drop, get_or-drop, get_or_past, get_or-append-add, length-drop, length-append, length_push}
+use Rattle.std.proofs.Common.{◌≡◌, ℕ, suc, ◌+◌, ◌<◌, ◌≤◌, true, false, List, [], ◌∷◌, ◌++◌, append-nil, length, get_or, drop, Some, None, Option, sym, ap, ◌∙◌, inl, inr, add-zero, append_assoc, arith, Bor}
+use Rattle.std.proofs.lemmas.List.{drop-drop, get_or-drop, get_or_past, get_or-append-add, length-drop, length_push}
 use Rattle.std.proofs.lemmas.Bool.{cases_eq}
 use Rattle.std.specs.Iterator.Adapters.{take_source, take_count, enumerate_source, enumerate_count, rev_source, zip_first, zip_second, take_steps, enumerate_steps, enumerate_steps_back, rev_steps, zip_steps}
 use Rattle.std.specs.Slice.Iter.{iter_rest, iter_steps, iter_steps_back}
@@ -38,14 +38,12 @@ Reads = take_steps (enumerate_steps iter_steps)
 
 -- How far a reading of the first n marks has come.
 pub record Reading (n : ℕ) (bytes : List ℕ) (it : MarksReader) : Type 0 where
-  pub fits : position it + length (left it) < 2 ^ 64
   pub rest : left it ≡ drop (position it) bytes
   pub limit : take_count it + position it ≡ n
 
-pub read_none : (n : ℕ) (bytes : List ℕ) (it : MarksReader) → position it ≡ 0 → left it ≡ bytes → take_count it ≡ n → length bytes < 2 ^ 64 →
+pub read_none : (n : ℕ) (bytes : List ℕ) (it : MarksReader) → position it ≡ 0 → left it ≡ bytes → take_count it ≡ n →
     Reading n bytes it
-read_none n bytes it first all limit fits = record {
-  fits = omega (arith, ap length all);
+read_none n bytes it first all limit = record {
   rest = all ∙ ap (λ k. drop k bytes) (sym first);
   limit = omega arith;
 }
@@ -72,7 +70,6 @@ turn n bytes it next i mark r step =
       marks = λ some. marked_by n bytes i below (λ e. some (sym at.1 ∙ e));
       leaves = λ none. unmarked_by n bytes i (at.1 ∙ none);
       onward = record {
-        fits = omega (arith, ap length step.0.0, r.fits);
         rest = at.2 ∙ ap (λ k. drop k bytes) after;
         limit = omega (arith, r.limit);
       };

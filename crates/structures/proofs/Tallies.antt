@@ -85,7 +85,7 @@ module _ (J : Units) (stratum : ℕ → ℕ) where
 pub lowest_told : (M : Meaning) (stratum : ℕ → ℕ) (J : Units) (t : ℕ) (counts : List ℕ) → t ≤ 64 →
     ((u : ℕ) → u < 64 → get_or counts u 0 ≡ count (both J (of_stratum stratum u)) M.units) → (found : Option ℕ) →
     MatchOption found ((k : ℕ) → k < t → get_or counts k 0 < 2)
-        (λ u. (u < t) × (2 ≤ get_or counts u 0) × ((k : ℕ) → k < u → get_or counts k 0 < 2)) →
+    (λ u. (u < t) × (2 ≤ get_or counts u 0) × ((k : ℕ) → k < u → get_or counts k 0 < 2)) →
     found ≡ lowest (stratum_has_two M stratum J) t
 lowest_told M stratum J t counts small told None none =
     lowest_is (stratum_has_two M stratum J) t None (λ k h. few_told (both J (of_stratum stratum k)) M.units (omega (arith, told k (omega arith), none k h)))

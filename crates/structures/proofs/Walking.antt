@@ -1,5 +1,5 @@
 -- Walking down from a node until the numbers have fallen to that of the node that is asked for.
-use Rattle.std.proofs.Common.{◌≡◌, ℕ, zero, suc, ◌+◌, ◌<◌, ◌≤◌, eqb, List, length, get_or, refl, ap, ◌∙◌, arith}
+use Rattle.std.proofs.Common.{◌≡◌, ℕ, zero, suc, ◌+◌, ◌<◌, ◌≤◌, eqb, List, length, get_or, ap, ◌∙◌, arith}
 use Rattle.std.proofs.lemmas.List.{get_or_read}
 use Rattle.std.proofs.lemmas.Bool.{eq-eqb, eqb-true}
 use Rattle.terms.proofs.Totals.{same_test}
@@ -29,11 +29,7 @@ module _ (parents homes : List NodeNo) (ok : Drainage parents homes) where
   pub parent_below : (v m : ℕ) → v < m → parent v < m
   parent_below v m h = omega (arith, parent_le parent (at_root parents ok.2) fallen v)
 
-  -- It begins at home,
-  pub walked_none : (q v : ℕ) → v < length parents → Walked parents v q v
-  walked_none q v h = (h, (0, refl), λ k e. (k, e))
-
-  -- goes down by a parent while it is above q, since q then lies further on,
+  -- It goes down by a parent while it is above q, since q then lies further on,
   past : (q v j : ℕ) → q < v → through parent j v ≡ q → (k : ℕ) × (through parent k (parent v) ≡ q)
   past q v zero above e = absurd (omega arith)
   past q v (suc j) above e = (j, e)

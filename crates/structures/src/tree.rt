@@ -7,6 +7,8 @@ ghost use Rattle.structures.specs.Drainage.{Drainage};
 use std::alloc::Global;
 use terms::NodeNo;
 
+// Nodes are numbers in two lists, and no boxes with children: callers and ranges tell nodes by
+// number, and the choice is one pass from the highest number down that allocates nothing.
 #[derive(Drop)]
 pub struct Tree {
     // Where the lists of the next filling are kept.

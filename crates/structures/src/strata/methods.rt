@@ -55,7 +55,8 @@ impl<B: Audited> Strata<B> {
         if count as u64 * self.width() > MAX_RANGES {
             return Err(Fault::TooManyRanges);
         }
-        // The only step that can fail comes before any change.
+        // The only step that can fail comes before any change. It is no `Vec::from_slice`, which does not
+        // promise that want of memory is told only where there is something to copy.
         let mut copied = Vec::new(self.heap);
         copied.extend_from_slice(strata)?;
         self.strata = copied;
@@ -116,7 +117,8 @@ impl<B: Audited> Structure for Strata<B> {
         let Some(stratum) = self.lowest_with_two(marks) else {
             return self.below.choice(marks);
         };
-        // What is lent below marks the units of this stratum alone.
+        // What is lent below marks the units of this stratum alone. It is fixed memory on purpose: a draw
+        // must not allocate while it steps.
         let mut masked = [0u8; 1024];
         for (unit, mark) in marks.iter().enumerate().take(self.below.units() as usize) {
             if *mark != 0 && self.stratum_of(unit) == stratum {
@@ -130,12 +132,7 @@ impl<B: Audited> Structure for Strata<B> {
 impl<B: Audited> Audited for Strata<B> {
     // None where one stratum alone would make too many. No filling is taken there either.
     fn ranges(&self) -> u32 {
-        let ranges = self.count as u64 * self.width();
-        if ranges > MAX_RANGES {
-            0
-        } else {
-            ranges as u32
-        }
+        u32::try_from(self.count as u64 * self.width()).unwrap_or(0)
     }
 
     // The quotient is the stratum; the remainder is 0 for the whole of it, else one more than the

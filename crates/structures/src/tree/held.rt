@@ -5,7 +5,8 @@ ghost use Rattle.structures.specs.Meaning.{Units};
 
 use terms::UnitNo;
 
-// No more than two are kept, the lowest-numbered ones, the lower first.
+// No more than two are kept, the lowest-numbered ones, the lower first. Two states have units and
+// the third has none, so that it is no `Option`.
 #[derive(Clone, Copy)]
 pub(crate) enum Held {
     Nothing,

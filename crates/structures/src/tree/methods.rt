@@ -81,7 +81,8 @@ impl Tree {
         within_limit(homes.len())?;
         check_parents(parents)?;
         check_homes(parents.len(), homes)?;
-        // Both copies are made before any change.
+        // Both copies are made before any change. They are no `Vec::from_slice`, which does not promise
+        // that want of memory is told only where there is something to copy.
         let mut drained = Vec::new(self.heap);
         drained.extend_from_slice(parents)?;
         let mut housed = Vec::new(self.heap);
@@ -95,6 +96,7 @@ impl Tree {
     fn at_homes(&self, marks: &[u8]) -> [Held; 1024]
         ensures { Kept (marked (length self.now.homes.items) marks.now) (node_at self.now.homes.items) (length self.now.homes.items) 1024 result }
     {
+        // Fixed memory on purpose: a draw must not allocate while it steps.
         let mut held = [Held::Nothing; 1024];
         for (i, (home, mark)) in self.homes.iter().zip(marks).enumerate() {
             if *mark != 0 {
@@ -142,6 +144,7 @@ impl Audited for Tree {
             return false;
         };
         let mut node = home.0;
+        // A `while`, since it follows parents and counts no index.
         while node as u32 > range.0 {
             node = self.parents[node as usize].0;
         }

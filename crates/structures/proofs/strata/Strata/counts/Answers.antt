@@ -1,4 +1,4 @@
-use Rattle.std.proofs.Common.{◌≡◌, ◌+◌, ◌^◌, ◌<◌, ◌≤◌, length, sym, arith, rules}
+use Rattle.std.proofs.Common.{◌≡◌, ◌<◌, sym, arith, rules}
 use Rattle.std.specs.Iterator.Adapters.{take_count}
 use Rattle.terms.proofs.Totals.{count_le}
 use Rattle.structures.specs.Marks.{marked}
@@ -17,8 +17,7 @@ loop-unit-init g c =
     let first : position it ≡ 0 = search rules in
     let all : left it ≡ c.args.marks.now = search rules in
     let limit : take_count it ≡ n = search rules in
-    let fits : length c.args.marks.now < 2 ^ 64 = search rules in
-    record { reading = read_none n c.args.marks.now it first all limit fits; tallied = rw first (tallied_none (marked n c.args.marks.now) (stratum_at c.args.self.now.strata.items)) }
+    record { reading = read_none n c.args.marks.now it first all limit; tallied = rw first (tallied_none (marked n c.args.marks.now) (stratum_at c.args.self.now.strata.items)) }
 
 -- the turn at a unit
 at : (g : Over) (c : In-Some g) → Turn (g.B.Structure.meaning c.args.self.now.below).units c.args.marks.now c.loop-unit.unit-iterator c.next.new.self
@@ -38,8 +37,14 @@ overflow_add-counts g c =
     let M = g.B.Structure.meaning self.below in
     let s = c.stratum_of.result.0 in
     let J = both (marked M.units c.args.marks.now) (of_stratum (stratum_at self.strata.items) s) in
-    omega (arith, M.few_units, c.loop-unit.invariant.tallied.so_far s (under g (goal.at.overflow_add-counts g c).After-stratum_of),
-        count_le J (position c.loop-unit.unit-iterator), here.here, here.below)
+    omega (
+      arith,
+      M.few_units,
+      c.loop-unit.invariant.tallied.so_far s (under g (goal.at.overflow_add-counts g c).After-stratum_of),
+      count_le J (position c.loop-unit.unit-iterator),
+      here.here,
+      here.below,
+    )
 
 pub loop-unit-preserved-then-mark-ne0 : goal.loop-unit-preserved-then-mark-ne0
 loop-unit-preserved-then-mark-ne0 g c =

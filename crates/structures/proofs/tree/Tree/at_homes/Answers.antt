@@ -1,4 +1,4 @@
-use Rattle.std.proofs.Common.{◌≡◌, length, vec_items, sym, ap, ◌∙◌, arith, rules}
+use Rattle.std.proofs.Common.{◌≡◌, length, vec_items, sym, rules}
 use Rattle.std.specs.Iterator.Adapters.{enumerate_count}
 use Rattle.structures.specs.Drainage.{node_at}
 use Rattle.structures.proofs.Reading.{homes_left, marks_left, homes_none, homes_turn, homes_read}

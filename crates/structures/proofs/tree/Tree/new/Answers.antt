@@ -3,11 +3,11 @@ use Rattle.structures.specs.LowestLaws.{lowest_found}
 use Rattle.structures.specs.ExtremeLaws.{highest_found}
 use Rattle.structures.proofs.tree.Tree.new.Goals as goal
 
-pub returns : goal.returns
-returns c = record {
-  no_nodes = c.new.ensures.items;
-  no_units = c.new-2.ensures.items;
-  drained = catchments_drained;
-  highest = highest_found;
-  lowest = lowest_found;
-}
+pub returns-clause-drained : goal.returns-clause-drained
+returns-clause-drained c = catchments_drained
+
+pub returns-clause-highest : goal.returns-clause-highest
+returns-clause-highest c = highest_found
+
+pub returns-clause-lowest : goal.returns-clause-lowest
+returns-clause-lowest c = lowest_found

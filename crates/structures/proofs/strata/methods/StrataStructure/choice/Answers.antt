@@ -1,4 +1,4 @@
-use Rattle.std.proofs.Common.{◌≡◌, ◌^◌, ◌<◌, false, length, sym, arith, rules}
+use Rattle.std.proofs.Common.{◌≡◌, false, sym, arith, rules}
 use Rattle.std.proofs.lemmas.Bool.{and_left}
 use Rattle.std.specs.Iterator.Adapters.{take_count}
 use Rattle.structures.specs.Marks.{marked, named}
@@ -18,9 +18,8 @@ loop-unit-init g c =
     let first : position it ≡ 0 = search rules in
     let all : left it ≡ c.args.marks.now = search rules in
     let limit : take_count it ≡ n = search rules in
-    let fits : length c.args.marks.now < 2 ^ 64 = search rules in
     record {
-      reading = read_none n c.args.marks.now it first all limit fits;
+      reading = read_none n c.args.marks.now it first all limit;
       masked = rw first (masked_none (both (marked n c.args.marks.now) (of_stratum (stratum_at self.strata.items) c.in-Some.stratum.0)));
     }
 
