@@ -1,10 +1,10 @@
 // Strata over a line, and over other strata.
-use super::{check_choice, taken, told};
+use super::check_choice;
 use crate::*;
 use std::alloc::Global;
 use std::process::Abort;
 use std::test::Fail;
-use terms::{RangeNo, StratumNo, UnitNo};
+use terms::{Fault, RangeNo, StratumNo, UnitNo};
 
 fn filled<B: Audited + Drop>(
     heap: Global,
@@ -13,30 +13,28 @@ fn filled<B: Audited + Drop>(
     strata: &[StratumNo],
 ) -> Result<Strata<B>, Fail> {
     let mut made = Strata::new(heap, below);
-    told(made.fill(count, strata))?;
+    made.fill(count, strata)?;
     Ok(made)
 }
 
-// Which of the first four units the range holds.
-fn held<S: Audited>(structure: &S, range: u32) -> [bool; 4] {
-    let range = RangeNo(range);
-    [
-        structure.holds(range, UnitNo(0)),
-        structure.holds(range, UnitNo(1)),
-        structure.holds(range, UnitNo(2)),
-        structure.holds(range, UnitNo(3)),
-    ]
+// Which of the first N units the range holds; no structure has more than 1,024.
+pub(super) fn held<S: Audited, const N: usize>(structure: &S, range: u32) -> [bool; N] {
+    let mut held = [false; N];
+    for (is_held, unit) in held.iter_mut().zip(0..1024u16) {
+        *is_held = structure.holds(RangeNo(range), UnitNo(unit));
+    }
+    held
 }
 
 // Two strata over a line of three units: unit 1, and the units 0 and 2.
 fn two_strata(heap: Global) -> Result<Strata<Line>, Fail> {
     let strata = [StratumNo(1), StratumNo(0), StratumNo(1)];
-    filled(heap, taken(Line::new(3))?, 2, &strata)
+    filled(heap, Line::new(3)?, 2, &strata)
 }
 
 #[test]
 fn one_stratum_until_filled(rt: HostRuntime) -> Result<(), Fail> {
-    let strata = Strata::new(rt.alloc(), taken(Line::new(3))?);
+    let strata = Strata::new(rt.alloc(), Line::new(3)?);
     assert_eq!(rt; strata.units(), 3);
     assert_eq!(rt; strata.ranges(), 4);
     assert_eq!(rt; held(&strata, 0), [true, true, true, false]);
@@ -64,7 +62,7 @@ fn ranges_of_two_strata(rt: HostRuntime) -> Result<(), Fail> {
 
 #[test]
 fn choices_within_a_stratum_first(rt: HostRuntime) -> Result<(), Fail> {
-    let line = taken(Line::new(5))?;
+    let line = Line::new(5)?;
     let numbers = [
         StratumNo(1),
         StratumNo(0),
@@ -84,7 +82,7 @@ fn choices_within_a_stratum_first(rt: HostRuntime) -> Result<(), Fail> {
 #[test]
 fn sixty_four_strata(rt: HostRuntime) -> Result<(), Fail> {
     let numbers = [StratumNo(63), StratumNo(0), StratumNo(63)];
-    let strata = filled(rt.alloc(), taken(Line::new(3))?, 64, &numbers)?;
+    let strata = filled(rt.alloc(), Line::new(3)?, 64, &numbers)?;
     assert_eq!(rt; strata.ranges(), 256);
     assert_eq!(rt; held(&strata, 252), [true, false, true, false]);
     check_choice(&rt, &strata, &[1, 1, 1], Some((0, 2)));
@@ -94,11 +92,10 @@ fn sixty_four_strata(rt: HostRuntime) -> Result<(), Fail> {
 // Over units without order there is a range for each stratum and no other.
 #[test]
 fn strata_of_1024_units(rt: HostRuntime) -> Result<(), Fail> {
-    let mut numbers = Vec::new(rt.alloc());
-    for i in 0..1024u16 {
-        numbers.push(StratumNo((i % 64) as u8))?;
-    }
-    let strata = filled(rt.alloc(), taken(Loose::new(1024))?, 64, &numbers)?;
+    let numbers: Vec<StratumNo> = (0..1024u16)
+        .map(|i| StratumNo((i % 64) as u8))
+        .collect(rt.alloc())?;
+    let strata = filled(rt.alloc(), Loose::new(1024)?, 64, &numbers)?;
     assert_eq!(rt; strata.ranges(), 64);
     assert!(rt; strata.holds(RangeNo(63), UnitNo(1023)));
     assert!(rt; !strata.holds(RangeNo(62), UnitNo(1023)));
@@ -109,7 +106,7 @@ fn strata_of_1024_units(rt: HostRuntime) -> Result<(), Fail> {
 #[test]
 fn strata_over_strata(rt: HostRuntime) -> Result<(), Fail> {
     let (s, t) = (StratumNo(0), StratumNo(1));
-    let halves = filled(rt.alloc(), taken(Line::new(4))?, 2, &[s, s, t, t])?;
+    let halves = filled(rt.alloc(), Line::new(4)?, 2, &[s, s, t, t])?;
     let strata = filled(rt.alloc(), halves, 2, &[s, t, s, t])?;
     assert_eq!(rt; strata.ranges(), 22);
     assert_eq!(rt; held(&strata, 11), [false, true, false, true]);
@@ -125,10 +122,13 @@ fn strata_over_strata(rt: HostRuntime) -> Result<(), Fail> {
 fn refused_fillings_change_nothing(rt: HostRuntime) -> Result<(), Fail> {
     let mut strata = two_strata(rt.alloc())?;
     let high = [StratumNo(0), StratumNo(64), StratumNo(65)];
-    assert_eq!(rt; told(strata.fill(0, &high)), Err((20, 0)));
-    assert_eq!(rt; told(strata.fill(65, &high)), Err((20, 0)));
-    assert_eq!(rt; told(strata.fill(1, &high[1..3])), Err((20, 0)));
-    assert_eq!(rt; told(strata.fill(64, &high)), Err((21, 1)));
+    assert_eq!(rt; strata.fill(0, &high).map_err(Fault::tells), Err((20, 0)));
+    assert_eq!(rt; strata.fill(65, &high).map_err(Fault::tells), Err((20, 0)));
+    assert_eq!(rt;
+        strata.fill(1, &high[1..3]).map_err(Fault::tells),
+        Err((20, 0))
+    );
+    assert_eq!(rt; strata.fill(64, &high).map_err(Fault::tells), Err((21, 1)));
     assert_eq!(rt; strata.ranges(), 8);
     assert_eq!(rt; held(&strata, 4), [true, false, true, false]);
     Ok(())
@@ -141,8 +141,14 @@ fn check_unfillable<B: Audited + Drop>(rt: &impl Abort, heap: Global, below: B) 
     assert_eq!(rt; strata.ranges(), 0);
     assert!(rt; !strata.holds(RangeNo(0), UnitNo(0)));
     check_choice(rt, &strata, &[1, 1], Some((0, 1)));
-    assert_eq!(rt; told(strata.fill(1, &[StratumNo(1); 28])), Err((21, 0)));
-    assert_eq!(rt; told(strata.fill(1, &[StratumNo(0); 28])), Err((22, 0)));
+    assert_eq!(rt;
+        strata.fill(1, &[StratumNo(1); 28]).map_err(Fault::tells),
+        Err((21, 0))
+    );
+    assert_eq!(rt;
+        strata.fill(1, &[StratumNo(0); 28]).map_err(Fault::tells),
+        Err((22, 0))
+    );
 }
 
 // Two layers more, with every unit in stratum 0.
@@ -161,7 +167,7 @@ fn two_more<B: Audited + Drop>(
 #[test]
 fn too_many_ranges(rt: HostRuntime) -> Result<(), Fail> {
     let heap = rt.alloc();
-    let one = filled(heap, taken(Line::new(28))?, 45, &[StratumNo(0); 28])?;
+    let one = filled(heap, Line::new(28)?, 45, &[StratumNo(0); 28])?;
     let three = two_more(heap, one, 60, 63)?;
     check_unfillable(&rt, heap, two_more(heap, three, 58, 15)?);
     Ok(())

@@ -1,13 +1,14 @@
 // Drainage trees of several shapes.
-use super::{check_choice, told};
+use super::check_choice;
+use super::strata::held;
 use crate::*;
 use std::alloc::Global;
 use std::test::Fail;
-use terms::{NodeNo, RangeNo, UnitNo};
+use terms::{Fault, NodeNo, RangeNo, UnitNo};
 
 fn filled(heap: Global, parents: &[NodeNo], homes: &[NodeNo]) -> Result<Tree, Fail> {
     let mut tree = Tree::new(heap);
-    told(tree.fill(parents, homes))?;
+    tree.fill(parents, homes)?;
     Ok(tree)
 }
 
@@ -19,23 +20,14 @@ fn bypass(heap: Global) -> Result<Tree, Fail> {
     filled(heap, &parents, &homes)
 }
 
-// Which of the first five units the range holds.
-fn held(tree: &Tree, range: u32) -> [bool; 5] {
-    let range = RangeNo(range);
-    [
-        tree.holds(range, UnitNo(0)),
-        tree.holds(range, UnitNo(1)),
-        tree.holds(range, UnitNo(2)),
-        tree.holds(range, UnitNo(3)),
-        tree.holds(range, UnitNo(4)),
-    ]
-}
-
 #[test]
 fn empty_until_filled(rt: HostRuntime) -> Result<(), Fail> {
     let mut tree = Tree::new(rt.alloc());
-    assert_eq!(rt; told(tree.fill(&[], &[NodeNo(0)])), Err((19, 0)));
-    told(tree.fill(&[], &[]))?;
+    assert_eq!(rt;
+        tree.fill(&[], &[NodeNo(0)]).map_err(Fault::tells),
+        Err((19, 0))
+    );
+    tree.fill(&[], &[])?;
     assert_eq!(rt; tree.units(), 0);
     assert_eq!(rt; tree.ranges(), 0);
     assert!(rt; !tree.holds(RangeNo(0), UnitNo(0)));
@@ -69,12 +61,10 @@ fn choices_at_a_bypass(rt: HostRuntime) -> Result<(), Fail> {
 
 #[test]
 fn chain(rt: HostRuntime) -> Result<(), Fail> {
-    let mut parents = Vec::new(rt.alloc());
-    let mut homes = Vec::new(rt.alloc());
-    for i in 0..1024u16 {
-        parents.push(NodeNo(i.saturating_sub(1)))?;
-        homes.push(NodeNo(1023 - i))?;
-    }
+    let parents: Vec<NodeNo> = (0..1024u16)
+        .map(|i| NodeNo(i.saturating_sub(1)))
+        .collect(rt.alloc())?;
+    let homes: Vec<NodeNo> = (0..1024u16).rev().map(NodeNo).collect(rt.alloc())?;
     let tree = filled(rt.alloc(), &parents, &homes)?;
     check_choice(&rt, &tree, &[1; 1024], Some((0, 1)));
     let mut ends = [0; 1024];
@@ -90,10 +80,9 @@ fn chain(rt: HostRuntime) -> Result<(), Fail> {
 #[test]
 fn star(rt: HostRuntime) -> Result<(), Fail> {
     let parents = [NodeNo(0); 1024];
-    let mut homes = Vec::new(rt.alloc());
-    for i in 0..1024u16 {
-        homes.push(NodeNo(if i == 7 { 500 } else { i }))?;
-    }
+    let homes: Vec<NodeNo> = (0..1024u16)
+        .map(|i| NodeNo(if i == 7 { 500 } else { i }))
+        .collect(rt.alloc())?;
     let tree = filled(rt.alloc(), &parents, &homes)?;
     check_choice(&rt, &tree, &[1; 1024], Some((7, 500)));
     check_choice(&rt, &tree, &[0, 0, 0, 1, 1, 1], Some((3, 4)));
@@ -120,12 +109,21 @@ fn refused_fillings_change_nothing(rt: HostRuntime) -> Result<(), Fail> {
     let mut tree = bypass(rt.alloc())?;
     let many = [NodeNo(9); 1025];
     let own = [NodeNo(0), NodeNo(1)];
-    assert_eq!(rt; told(tree.fill(&many, &[])), Err((17, 0)));
-    assert_eq!(rt; told(tree.fill(&own, &many)), Err((17, 0)));
-    assert_eq!(rt; told(tree.fill(&many[0..2], &many[0..2])), Err((18, 0)));
-    assert_eq!(rt; told(tree.fill(&own, &many[0..2])), Err((18, 1)));
+    assert_eq!(rt; tree.fill(&many, &[]).map_err(Fault::tells), Err((17, 0)));
+    assert_eq!(rt; tree.fill(&own, &many).map_err(Fault::tells), Err((17, 0)));
+    assert_eq!(rt;
+        tree.fill(&many[0..2], &many[0..2]).map_err(Fault::tells),
+        Err((18, 0))
+    );
+    assert_eq!(rt;
+        tree.fill(&own, &many[0..2]).map_err(Fault::tells),
+        Err((18, 1))
+    );
     let homes = [NodeNo(0), NodeNo(1)];
-    assert_eq!(rt; told(tree.fill(&own[0..1], &homes)), Err((19, 1)));
+    assert_eq!(rt;
+        tree.fill(&own[0..1], &homes).map_err(Fault::tells),
+        Err((19, 1))
+    );
     assert_eq!(rt; tree.units(), 4);
     assert_eq!(rt; held(&tree, 1), [true, true, false, true, false]);
     Ok(())

@@ -57,26 +57,11 @@ loop-unit-preserved-then-mark-ne0 g c =
           (here.marks c.if-mark-ne0.true) c.stratum_of.ensures (under g (goal.at.loop-unit-preserved-then-mark-ne0 g c).After-stratum_of) (rw (sym here.here) at c.loop-unit.invariant.tallied));
     }
 
-pub loop-unit-preserved : goal.loop-unit-preserved
-loop-unit-preserved g c =
-    let here = at g (goal.at.loop-unit-preserved g c).In-Some in
-    let self = c.args.self.now in
-    let J = marked (g.B.Structure.meaning self.below).units c.args.marks.now in
-    record {
-      reading = here.onward;
-      tallied = rw (sym here.after) (tallied_past J (stratum_at self.strata.items) c.loop-unit.counts c.in-Some.unit
-          (here.leaves c.if-mark-ne0.false) (rw (sym here.here) at c.loop-unit.invariant.tallied));
-    }
-
-pub returns : goal.returns
-returns g c =
+pub returns-clause-counts : goal.returns-clause-counts
+returns-clause-counts g c u h =
     let self = c.args.self.now in
     let n = (g.B.Structure.meaning self.below).units in
-    let J = marked n c.args.marks.now in
-    record {
-      len = c.loop-unit.invariant.tallied.long;
-      counts = λ u h. tallied_all J (stratum_at self.strata.items) c.loop-unit.counts (position c.loop-unit.unit-iterator) n u
-          (omega (arith, c.loop-unit.invariant.reading.limit))
-          (read_all n c.args.marks.now c.loop-unit.unit-iterator c.next.new.self c.loop-unit.invariant.reading c.in-None.ensures.steps) h
-          c.loop-unit.invariant.tallied;
-    }
+    tallied_all (marked n c.args.marks.now) (stratum_at self.strata.items) c.loop-unit.counts (position c.loop-unit.unit-iterator) n u
+    (omega (arith, c.loop-unit.invariant.reading.limit))
+    (read_all n c.args.marks.now c.loop-unit.unit-iterator c.next.new.self c.loop-unit.invariant.reading c.in-None.ensures.steps) h
+    c.loop-unit.invariant.tallied

@@ -61,9 +61,6 @@ loop-unit-preserved g c =
           (rw (sym here.here) at c.loop-unit.invariant.masked));
     }
 
-pub returns-in_default : goal.returns-in_default
-returns-in_default g c = rw (sym c.in_default.ensures) c.choice.ensures
-
 pub returns : goal.returns
 returns g c =
     let self = c.args.self.now in
