@@ -1,6 +1,6 @@
 -- One pass over the nodes, which takes the marked units down the waterway until two have met.
-use Rattle.std.proofs.Common.{◌≡◌, ℕ, zero, suc, ◌+◌, ◌<◌, ◌≤◌, Bool, true, false, cond, ◌||◌, eqb, List, length, get_or, set, Some, None, sym, refl, ap, ◌∙◌, subst, inl, inr, arith}
-use Rattle.std.proofs.lemmas.Bool.{cases_eq, cases_order, both_ways, and_parts, and_from, and_right, or_right, eq-eqb, eqb-true, ne_eqb, cond-true, cond-false}
+use Rattle.std.proofs.Common.{◌≡◌, ℕ, suc, ◌+◌, ◌<◌, ◌≤◌, true, false, cond, eqb, List, length, get_or, set, Some, None, sym, refl, ap, ◌∙◌, subst, inl, inr, arith}
+use Rattle.std.proofs.lemmas.Bool.{cases_eq, and_parts, and_from, and_right, eq-eqb, eqb-true, ne_eqb, cond-true, cond-false}
 use Rattle.std.proofs.lemmas.List.{get_or-set_same, get_or-set_other, length-set}
 use Rattle.terms.specs.Counts.{count, Within}
 use Rattle.terms.specs.declared.numbers.NodeNo.{NodeNo}
@@ -8,6 +8,7 @@ use Rattle.terms.specs.declared.numbers.UnitNo.{UnitNo}
 use Rattle.terms.proofs.Totals.{same_test}
 use Rattle.structures.specs.Drainage.{node_at, Drainage, through, catchment}
 use Rattle.structures.specs.DrainageLaws.{at_root, falling, through_le, through_on, catchment_parts, catchment_from}
+use Rattle.std.proofs.lemmas.Bool.Decides.{nat_tests}
 use Rattle.structures.specs.Held.{Keeps, joined, at_node, Kept}
 use Rattle.structures.specs.LowestLaws.{count_none, count_alone, count_two, some_from_pair}
 use Rattle.structures.specs.Meaning.{Units}
@@ -18,6 +19,7 @@ use Rattle.structures.specs.ExtremeLaws.{highest_is}
 use Rattle.structures.specs.declared.tree.held.Held.{Held}
 use Rattle.structures.specs.declared.tree.held.Held.TheVariants.{Nothing, One, Two}
 use Rattle.structures.proofs.Holding.{Takes, keeps_same}
+use Rattle.structures.proofs.Walking.{further_on}
 
 -- Where the units are once unit a has come to node p.
 abbrev moved : (ℕ → ℕ) → ℕ → ℕ → ℕ → ℕ
@@ -31,23 +33,11 @@ moved_else place a p i d = cond-false (eqb i a) p (place i) (ne_eqb i a d)
 
 -- It joins what was there,
 moved_here : (J : Units) (place : ℕ → ℕ) (a p : ℕ) → J a ≡ true → (i : ℕ) → joined a (at_node J place p) i ≡ at_node J (moved place a p) p i
-moved_here J place a p in_a i = elim (cases_eq i a) [
-  | inl e ↦ or_right (at_node J place p i) (eqb i a) (eq-eqb i a e)
-      ∙ sym (and_from (J i) (eqb (moved place a p i) p) (ap J e ∙ in_a) (eq-eqb (moved place a p i) p (moved_it place a p i e)))
-  | inr d ↦ rw (moved_else place a p i d, ne_eqb i a d) (or_false (at_node J place p i))
-]
-  where
-    or_false : (b : Bool) → (b || false) ≡ b
-    or_false true = refl
-    or_false false = refl
+moved_here J place a p in_a i = grind (arith, nat_tests)
 
 -- and at a node that it neither leaves nor comes to nothing changes.
 moved_away : (J : Units) (place : ℕ → ℕ) (a p v : ℕ) → (place a ≡ v → ⊥) → (v ≡ p → ⊥) → (i : ℕ) → at_node J place v i ≡ at_node J (moved place a p) v i
-moved_away J place a p v not_from not_to i = elim (cases_eq i a) [
-  | inl e ↦ and_right (J i) (eqb (place i) v) (ne_eqb (place i) v (λ t. not_from (ap place (sym e) ∙ t)))
-      ∙ sym (and_right (J i) (eqb (moved place a p i) v) (ne_eqb (moved place a p i) v (λ t. not_to (sym t ∙ moved_it place a p i e))))
-  | inr d ↦ rw (moved_else place a p i d)
-]
+moved_away J place a p v not_from not_to i = grind (arith, nat_tests)
 
 -- A pass that has m nodes left: where the marked units have been carried to, what the nodes left hold of them, and that none above can pair.
 pub record Carried (J : Units) (parents homes : List NodeNo) (m : ℕ) (held : List Held) : Type 0 where
@@ -136,8 +126,7 @@ module _ (J : Units) (parents homes : List NodeNo) (ok : Drainage parents homes)
           place = s.place;
           left = omega (arith, s.left);
           kept = record { long = s.kept.long; keeps = λ v h. s.kept.keeps v (omega arith) };
-          low = λ i t _. let away : (s.place i ≡ w → ⊥) = λ at. both_ways (at_node J s.place w i) (none i) (and_from (J i) (eqb (s.place i) w) t (eq-eqb (s.place i) w at)) in
-              elim (cases_order (s.place i) w) [ inl at ↦ absurd (away at) | inr (inl l) ↦ l | inr (inr l) ↦ absurd (omega (arith, s.low i t (omega arith))) ];
+          low = λ i t _. let away = none i in let l = s.low i t (omega arith) in grind (arith, nat_tests);
           way = s.way;
           onward = λ i q k t h. s.onward i q k t (omega arith);
           passed = passed_too (omega (arith, count_none (both J (range w)) n (λ c _. empty c)));
@@ -176,14 +165,7 @@ module _ (J : Units) (parents homes : List NodeNo) (ok : Drainage parents homes)
       }
 
       low' : (i : ℕ) → J i ≡ true → 0 < w → place' i < w
-      low' i t pos = elim (cases_eq i a.0) [
-        | inl e ↦ rw (moved_it s.place a.0 (parent w) i e) (fallen w pos)
-        | inr d ↦ rw (moved_else s.place a.0 (parent w) i d) (elim (cases_order (s.place i) w) [
-          | inl at ↦ absurd (both_ways (at_node J s.place w i) (only.2 i d) (and_from (J i) (eqb (s.place i) w) t (eq-eqb (s.place i) w at)))
-          | inr (inl l) ↦ l
-          | inr (inr l) ↦ absurd (omega (arith, s.low i t (omega arith)))
-        ])
-      ]
+      low' i t pos = let e = only.2 i in let l = s.low i t (omega arith) in let f = fallen w pos in grind (arith, nat_tests)
 
       way' : (i : ℕ) → J i ≡ true → (k : ℕ) × (through parent k (node_at homes i) ≡ place' i)
       way' i t = elim (cases_eq i a.0) [
@@ -195,16 +177,12 @@ module _ (J : Units) (parents homes : List NodeNo) (ok : Drainage parents homes)
         | inr d ↦ let on = s.way i t in (on.0, on.1 ∙ sym (moved_else s.place a.0 (parent w) i d))
       ]
 
-      past_w : (q j : ℕ) → q < w → through parent j w ≡ q → (k : ℕ) × (through parent k (parent w) ≡ q)
-      past_w q zero below e = absurd (omega arith)
-      past_w q (suc j) below e = (j, e)
-
       onward' : (i q k : ℕ) → J i ≡ true → q < w → through parent k (node_at homes i) ≡ q → (j : ℕ) × (through parent j (place' i) ≡ q)
       onward' i q k t below e =
           let on = s.onward i q k t (omega arith) e in
           elim (cases_eq i a.0) [
             | inl same ↦
-                let further = past_w q on.0 below (ap (through parent on.0) (sym (ap s.place same ∙ at_w)) ∙ on.1) in
+                let further = further_on parent q w on.0 below (ap (through parent on.0) (sym (ap s.place same ∙ at_w)) ∙ on.1) in
                 (further.0, ap (through parent further.0) (moved_it s.place a.0 (parent w) i same) ∙ further.1)
             | inr d ↦ (on.0, ap (through parent on.0) (moved_else s.place a.0 (parent w) i d) ∙ on.1)
           ]

@@ -1,8 +1,9 @@
 -- Bytes that mark a set of units, written from the front.
-use Rattle.std.proofs.Common.{◌≡◌, ℕ, ◌+◌, ◌<◌, ◌≤◌, true, false, ◌&&◌, eqb, ltb, List, length, get_or, set, replicate, Some, Option, sym, ap, ◌∙◌, inl, inr, arith, below_more}
+use Rattle.std.proofs.Common.{◌≡◌, ℕ, ◌+◌, ◌<◌, ◌≤◌, true, false, eqb, List, length, get_or, set, replicate, Some, Option, sym, ap, ◌∙◌, inl, inr, arith, below_more}
 use mathlib.Core.Path.{fun_ext}
 use Rattle.std.proofs.lemmas.List.{get_or-set_same, get_or-set_other, get_or-replicate, get_or_past, length-set, length-replicate}
-use Rattle.std.proofs.lemmas.Bool.{cases_lt, and_from, and_left, and_right, lt-ltb}
+use Rattle.std.proofs.lemmas.Bool.{cases_lt, and_left}
+use Rattle.std.proofs.lemmas.Bool.Decides.{nat_tests}
 use Rattle.structures.specs.Lowest.{lowest}
 use Rattle.structures.specs.Marks.{marked}
 use Rattle.structures.specs.Meaning.{Units, Meaning}
@@ -46,19 +47,16 @@ masked_more J bytes k h here old = record {
 
 -- Once none of the set is left, the bytes mark the set.
 pub masked_all : (J : Units) (n : ℕ) (bytes : List ℕ) (k : ℕ) → k ≤ n → ((c : ℕ) → k ≤ c → J c ≡ false) → Masked J bytes k → marked n bytes ≡ J
-masked_all J n bytes k few rest done = fun_ext (λ i. elim (cases_lt i k) [
-  | inl l ↦ ap (λ b. b && is_mark (get_or bytes i 0)) (lt-ltb i n (omega arith)) ∙ done.before i l
-  | inr l ↦ and_right (ltb i n) (is_mark (get_or bytes i 0)) (done.after i l) ∙ sym (rest i l)
-])
+masked_all J n bytes k few rest done = fun_ext (λ i. let before = done.before i in let after = done.after i in let past = rest i in grind (arith, nat_tests))
 
 -- A unit is kept if it is marked and of the stratum,
 module _ (J : Units) (stratum : ℕ → ℕ) (u k s : ℕ) (same : s ≡ stratum k) where
   pub kept : J k ≡ true → true ≡ eqb s u → both J (of_stratum stratum u) k ≡ true
-  kept here told = and_from (J k) (of_stratum stratum u k) here (ap (λ v. eqb v u) (sym same) ∙ sym told)
+  kept here told = grind (arith, nat_tests)
 
   -- and no other.
   pub left_out : false ≡ eqb s u → both J (of_stratum stratum u) k ≡ false
-  left_out told = and_right (J k) (of_stratum stratum u k) (ap (λ v. eqb v u) (sym same) ∙ sym told)
+  left_out told = grind (arith, nat_tests)
 
 -- The answer below to the marks of the lowest-numbered stratum with two is the choice.
 pub chosen : (M : Meaning) (t : ℕ) (stratum : ℕ → ℕ) (marks : List ℕ) (u : ℕ) (bytes : List ℕ) (k : ℕ) (answer : Option (ℕ × ℕ)) →

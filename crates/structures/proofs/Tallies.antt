@@ -1,8 +1,9 @@
 -- How many marked units each stratum has, counted unit by unit.
-use Rattle.std.proofs.Common.{◌≡◌, ℕ, ◌+◌, ◌-◌, ◌<◌, ◌≤◌, Bool, true, false, cond, List, length, get_or, set, replicate, Some, None, Option, sym, refl, ap, ◌∙◌, inl, inr, add-one, arith}
+use Rattle.std.proofs.Common.{◌≡◌, ℕ, ◌+◌, ◌-◌, ◌<◌, ◌≤◌, true, false, cond, List, length, get_or, set, replicate, Some, None, Option, sym, refl, ap, ◌∙◌, add-one, arith}
 use Rattle.std.proofs.lemmas.List.{get_or-set_same, get_or-set_other, get_or-replicate, length-set, length-replicate}
-use Rattle.std.proofs.lemmas.Bool.{cases_eq, and_from, and_left, and_right, eq-eqb, ne_eqb}
+use Rattle.std.proofs.lemmas.Bool.{and_left}
 use Rattle.std.specs.Option.{MatchOption}
+use Rattle.std.proofs.lemmas.Bool.Decides.{nat_tests}
 use Rattle.structures.specs.ExtremeLaws.{lowest_is}
 use Rattle.structures.specs.Lowest.{lowest}
 use Rattle.structures.specs.Meaning.{Units, Meaning}
@@ -18,8 +19,8 @@ pub record Tallied (J : Units) (stratum : ℕ → ℕ) (counts : List ℕ) (k : 
   pub so_far : (u : ℕ) → u < 64 → get_or counts u 0 ≡ count (both J (of_stratum stratum u)) k
 
 -- one unit more
-count_more : (p : Units) (k : ℕ) (b : Bool) → p k ≡ b → count p (k + 1) ≡ count p k + cond b 1 0
-count_more p k b e = rw (add-one k, e) refl
+count_more : (p : Units) (k : ℕ) → count p (k + 1) ≡ count p k + cond (p k) 1 0
+count_more p k = rw (add-one k) refl
 
 -- nothing counts where nothing is in the set
 count_rest : (p : Units) (k m : ℕ) → ((c : ℕ) → k ≤ c → p c ≡ false) → count p (k + m) ≡ count p k
@@ -38,11 +39,10 @@ module _ (J : Units) (stratum : ℕ → ℕ) where
   pub tallied_past : (counts : List ℕ) (k : ℕ) → J k ≡ false → Tallied J stratum counts k → Tallied J stratum counts (k + 1)
   tallied_past counts k e old = record {
     long = old.long;
-    so_far = λ u h. omega (
-      arith,
-      old.so_far u h,
-      count_more (both J (of_stratum stratum u)) k false (and_left (J k) (of_stratum stratum u k) e),
-    );
+    so_far = λ u h.
+        let was = old.so_far u h in
+        let more = count_more (both J (of_stratum stratum u)) k in
+        grind (arith, nat_tests);
   }
 
   -- past a marked unit, which counts in its stratum
@@ -50,28 +50,12 @@ module _ (J : Units) (stratum : ℕ → ℕ) where
       Tallied J stratum (set counts s (get_or counts s 0 + 1)) (k + 1)
   tallied_more counts k s e same small old = record {
     long = length-set counts s (get_or counts s 0 + 1) ∙ old.long;
-    so_far = λ u h. elim (cases_eq u s) [
-      | inl at ↦
-          let here = ap (λ v. get_or (set counts s (get_or counts s 0 + 1)) v 0) at ∙
-          get_or-set_same counts s (get_or counts s 0 + 1) 0 (omega (arith, old.long)) in
-          let seen = ap (λ v. get_or counts v 0) at in
-          omega (
-            arith,
-            here,
-            seen,
-            old.so_far u h,
-            count_more (both J (of_stratum stratum u)) k true
-                (and_from (J k) (of_stratum stratum u k) e (eq-eqb (stratum k) u (sym same ∙ sym at))),
-          )
-      | inr other ↦
-          omega (
-            arith,
-            get_or-set_other counts s u (get_or counts s 0 + 1) 0 other,
-            old.so_far u h,
-            count_more (both J (of_stratum stratum u)) k false
-                (and_right (J k) (of_stratum stratum u k) (ne_eqb (stratum k) u (λ d. other (sym d ∙ sym same)))),
-          )
-    ];
+    so_far = λ u h.
+        let was = old.so_far u h in
+        let more = count_more (both J (of_stratum stratum u)) k in
+        let here = get_or-set_same counts s (get_or counts s 0 + 1) 0 (omega (arith, old.long)) in
+        let away = get_or-set_other counts s u (get_or counts s 0 + 1) 0 in
+        grind (arith, nat_tests);
   }
 
   -- after the last marked unit

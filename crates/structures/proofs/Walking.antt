@@ -18,6 +18,11 @@ Walked parents home q v =
     × ((k : ℕ) × (through (node_at parents) k home ≡ v))
     × ((k : ℕ) → through (node_at parents) k home ≡ q → (j : ℕ) × (through (node_at parents) j v ≡ q))
 
+-- What lies on the way from v, below v, lies on the way from its parent.
+pub further_on : (parent : ℕ → ℕ) (q v j : ℕ) → q < v → through parent j v ≡ q → (k : ℕ) × (through parent k (parent v) ≡ q)
+further_on parent q v zero above e = absurd (omega arith)
+further_on parent q v (suc j) above e = (j, e)
+
 module _ (parents homes : List NodeNo) (ok : Drainage parents homes) where
   abbrev parent : ℕ → ℕ
   parent = node_at parents
@@ -30,16 +35,12 @@ module _ (parents homes : List NodeNo) (ok : Drainage parents homes) where
   parent_below v m h = omega (arith, parent_le parent (at_root parents ok.2) fallen v)
 
   -- It goes down by a parent while it is above q, since q then lies further on,
-  past : (q v j : ℕ) → q < v → through parent j v ≡ q → (k : ℕ) × (through parent k (parent v) ≡ q)
-  past q v zero above e = absurd (omega arith)
-  past q v (suc j) above e = (j, e)
-
   pub walked_more : (home q v : ℕ) → q < v → Walked parents home q v → Walked parents home q (parent v)
   walked_more home q v above walked =
       let on = walked.1 in (
         parent_below v (length parents) walked.0,
         (on.0 + 1, through_on parent (at_root parents ok.2) fallen on.0 1 home ∙ ap parent on.1),
-        λ k e. let further = walked.2 k e in past q v further.0 above further.1,
+        λ k e. let further = walked.2 k e in further_on parent q v further.0 above further.1,
       )
 
   -- and is at q in the end just if the catchment of q holds the unit.

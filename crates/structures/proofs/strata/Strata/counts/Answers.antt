@@ -5,7 +5,7 @@ use Rattle.structures.specs.Marks.{marked}
 use Rattle.structures.specs.Sets.{both}
 use Rattle.structures.specs.Strata.{stratum_at, of_stratum}
 use Rattle.structures.proofs.Reading.{position, left, Turn, read_none, turn, read_all}
-use Rattle.structures.proofs.Tallies.{tallied_none, tallied_past, tallied_more, tallied_all}
+use Rattle.structures.proofs.Tallies.{tallied_none, tallied_more, tallied_all}
 use Rattle.structures.proofs.strata.Strata.counts.Given.{Over}
 use Rattle.structures.proofs.strata.Strata.counts.Goals as goal
 use Rattle.structures.proofs.strata.Strata.counts.Goals.{In-Some, After-stratum_of}
