@@ -1,6 +1,7 @@
 -- One pass over the units, which stops at the marked ones.
 use Rattle.std.proofs.Common.{◌≡◌, ℕ, ◌+◌, ◌<◌, ◌≤◌, Bool, true, false, List, [], ◌∷◌, get_or, Some, None, Option, sym, ap, ◌∙◌, subst, inl, inr, arith, Bor}
 use Rattle.std.proofs.lemmas.Bool.{cases_eq, cases_lt, both_ways}
+use Rattle.std.proofs.lemmas.Bool.Decides.{nat_tests}
 use Rattle.std.proofs.iter.Yields.{nat_range_steps}
 use Rattle.std.specs.Fn.{CalledAt}
 use Rattle.std.specs.Iterator.{Yields}
@@ -13,11 +14,18 @@ use Rattle.structures.specs.Lowest.{two_lowest}
 use Rattle.structures.specs.LowestLaws.{count_none, count_alone, none_from_few, some_from_pair}
 use Rattle.structures.specs.Marks.{marked}
 use Rattle.structures.specs.Meaning.{Units}
-use Rattle.structures.proofs.Marked.{is_mark, marked_here, unmarked_here}
+use Rattle.structures.proofs.Marked.{is_mark}
 
 -- No unit of the set is at a or above it, below n.
 abbrev NoneFrom : Units → ℕ → ℕ → Type 0
 NoneFrom J a n = (k : ℕ) → a ≤ k → k < n → J k ≡ false
+
+-- A unit below n is in the set where its byte marks, and is not where it does not.
+marked_here : (n : ℕ) (bytes : List ℕ) (i : ℕ) → i < n → true ≡ is_mark (get_or bytes i 0) → marked n bytes i ≡ true
+marked_here n bytes i h e = grind (arith, nat_tests)
+
+unmarked_here : (n : ℕ) (bytes : List ℕ) (i : ℕ) → false ≡ is_mark (get_or bytes i 0) → marked n bytes i ≡ false
+unmarked_here n bytes i e = grind (arith, nat_tests)
 
 -- The pass asks f of each unit in turn, which tells whether its byte marks.
 module _ {F : Type 0} {g : Mut F (Bor ℕ × Unit {0}) Bool} (n : ℕ) (bytes : List ℕ) (f : F)

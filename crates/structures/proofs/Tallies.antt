@@ -35,16 +35,6 @@ module _ (J : Units) (stratum : ℕ → ℕ) where
   pub tallied_none : Tallied J stratum (replicate 64 0) 0
   tallied_none = record { long = length-replicate {A = ℕ} 64 0; so_far = λ u h. get_or-replicate 64 u 0 0 h }
 
-  -- past a unit that is not marked
-  pub tallied_past : (counts : List ℕ) (k : ℕ) → J k ≡ false → Tallied J stratum counts k → Tallied J stratum counts (k + 1)
-  tallied_past counts k e old = record {
-    long = old.long;
-    so_far = λ u h.
-        let was = old.so_far u h in
-        let more = count_more (both J (of_stratum stratum u)) k in
-        grind (arith, nat_tests);
-  }
-
   -- past a marked unit, which counts in its stratum
   pub tallied_more : (counts : List ℕ) (k s : ℕ) → J k ≡ true → s ≡ stratum k → s < 64 → Tallied J stratum counts k →
       Tallied J stratum (set counts s (get_or counts s 0 + 1)) (k + 1)

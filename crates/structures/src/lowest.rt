@@ -1,9 +1,8 @@
 // The choice that several structures share.
-ghost use Rattle.std.specs.Prelude.{◌≡◌};
+ghost use Rattle.std.specs.Prelude.{◌≡◌, not, ◌==◌, slice_index};
 ghost use Rattle.structures.specs.Lowest.{two_lowest};
 ghost use Rattle.structures.specs.Marks.{marked, named};
 
-use crate::marks::is_marked;
 use terms::UnitNo;
 
 // The two lowest-numbered marked units among the first `units`, the lower first.
@@ -14,4 +13,11 @@ pub(crate) fn two_lowest(units: u16, marks: &[u8]) -> Option<(UnitNo, UnitNo)>
     let lower = marked.next()?;
     let higher = marked.next()?;
     Some((UnitNo(lower), UnitNo(higher)))
+}
+
+// Whether the list has a byte for this unit, other than 0.
+fn is_marked(marks: &[u8], unit: usize) -> bool
+    ensures { result ≡ not (slice_index marks.now unit == 0) }
+{
+    marks.get(unit).is_some_and(|mark| *mark != 0)
 }

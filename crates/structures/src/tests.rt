@@ -7,22 +7,6 @@ use std::process::Abort;
 use std::test::Fail;
 use terms::{Fault, RangeNo, UnitNo};
 
-// What was made, or the number of the refusal.
-fn taken<S>(made: Result<S, Fault>) -> Result<S, u8> {
-    match made {
-        Ok(structure) => Ok(structure),
-        Err(fault) => Err(fault.number()),
-    }
-}
-
-// That it was done, or the number and the place of the refusal.
-fn told(answer: Result<(), Fault>) -> Result<(), (u8, u64)> {
-    match answer {
-        Ok(()) => Ok(()),
-        Err(fault) => Err((fault.number(), fault.place())),
-    }
-}
-
 fn check_choice<S: Structure>(
     rt: &impl Abort,
     structure: &S,
@@ -33,13 +17,13 @@ fn check_choice<S: Structure>(
     assert_eq!(rt; chosen.map(|(first, second)| (first.0, second.0)), wanted);
 }
 
-// Which of the first N units the range holds.
+// Which of the first N units the range holds; no structure has more than 1,024.
 fn held<S: Audited, const N: usize>(structure: &S, range: u32) -> [bool; N] {
-    let mut answers = [false; N];
-    for (unit, answer) in (0..1024).zip(answers.iter_mut()) {
-        *answer = structure.holds(RangeNo(range), UnitNo(unit));
+    let mut held = [false; N];
+    for (is_held, unit) in held.iter_mut().zip(0..1024u16) {
+        *is_held = structure.holds(RangeNo(range), UnitNo(unit));
     }
-    answers
+    held
 }
 
 // The choice among three units, whatever else the structure keeps.

@@ -1,5 +1,5 @@
 // Strata over a line, and over other strata.
-use super::check_choice;
+use super::{check_choice, held};
 use crate::*;
 use std::alloc::Global;
 use std::process::Abort;
@@ -15,15 +15,6 @@ fn filled<B: Audited + Drop>(
     let mut made = Strata::new(heap, below);
     made.fill(count, strata)?;
     Ok(made)
-}
-
-// Which of the first N units the range holds; no structure has more than 1,024.
-pub(super) fn held<S: Audited, const N: usize>(structure: &S, range: u32) -> [bool; N] {
-    let mut held = [false; N];
-    for (is_held, unit) in held.iter_mut().zip(0..1024u16) {
-        *is_held = structure.holds(RangeNo(range), UnitNo(unit));
-    }
-    held
 }
 
 // Two strata over a line of three units: unit 1, and the units 0 and 2.

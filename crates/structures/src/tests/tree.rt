@@ -1,6 +1,5 @@
 // Drainage trees of several shapes.
-use super::check_choice;
-use super::strata::held;
+use super::{check_choice, held};
 use crate::*;
 use std::alloc::Global;
 use std::test::Fail;
