@@ -11,3 +11,4 @@ pub mod Rows
 pub mod Settled
 pub mod Splits
 pub mod Starts
+pub mod Told

@@ -1,28 +1,35 @@
 -- Splits of the units, the rounds that find the one by the certain units, and what it gives.
-use Rattle.std.proofs.Common.{◌≡◌, ℕ, zero, suc, ◌+◌, ◌-◌, ◌*◌, ◌<◌, ◌≤◌, Bool, cond, List, length, sym, refl, ap, ◌∙◌, subst, inl, inr, mul-le-mul, add-one, arith}
+use Rattle.std.proofs.Common.{◌≡◌, ℕ, zero, suc, ◌+◌, ◌-◌, ◌*◌, ◌^◌, ◌<◌, ◌≤◌, Bool, cond, List, length, take, sum_by, sym, refl, ap, ◌∙◌, subst, inl, inr, add-one, arith}
+use Rattle.std.proofs.lemmas.List.{take_all}
+use Rattle.std.proofs.lemmas.List.Sums.{sum_by_more}
 use Rattle.std.proofs.lemmas.Bool.{cases_eq, cond_both, eq-eqb, ne_eqb}
 use Rattle.structures.specs.Meaning.{Units}
 use Rattle.terms.specs.Counts.{total, count}
 use Rattle.terms.proofs.Totals.{count_le}
 use Rattle.pivotal.specs.Certain.{denominator, numerator, rest}
-use Rattle.pivotal.specs.Register.{Measured, measures}
-use Rattle.pivotal.specs.Splitting.{qualifies, split_of, one_more, denominator_by, numerator_by, CertainSplit}
+use Rattle.pivotal.specs.Register.{blank, Measured, measure_of, measures}
+use Rattle.pivotal.specs.Splitting.{qualifies, split_of, one_more, round_of, denominator_by, numerator_by, CertainSplit}
 use Rattle.pivotal.specs.declared.setting.Split.{Split}
 use Rattle.pivotal.specs.declared.table.UnitRecord.{UnitRecord}
 use Rattle.pivotal.proofs.Rounds.{Positive, Reached, all_certain, none_left, reached_round, reached_stop}
-
--- a measure times the places left
-pub product_small : (a p : ℕ) → a ≤ 1000000 → p ≤ 1024 → a * p ≤ 1024000000
-product_small a p h l = mul-le-mul h l
 
 -- what measures come to
 pub total_small : (m : ℕ → ℕ) (n : ℕ) → ((i : ℕ) → i < n → m i ≤ 1000000) → total m n ≤ 1000000 * n
 total_small m zero h = omega arith
 total_small m (suc n) h = omega (arith, total_small m n (λ i l. h i (omega arith)), h n (omega arith))
 
--- the sum of one measure more
-pub total_more : (m : ℕ → ℕ) (i s x : ℕ) → s ≡ total m i → x ≡ m i → s + x ≡ total m (i + 1)
-total_more m i s x p q = rw add-one (λ j. p j + q j)
+-- the sum over the first units of a list is the total of their measures
+sum_front : (rows : List UnitRecord) (n : ℕ) → n ≤ length rows → sum_by measure_of (take n rows) ≡ total (measures rows) n
+sum_front rows zero h = refl
+sum_front rows (suc n) h = rw add-one at (sum_by_more measure_of rows n blank (omega arith)) ∙ ap (λ s. s + measures rows n) (sum_front rows n (omega arith))
+
+-- and so is the sum over all of them
+pub sum_total : (rows : List UnitRecord) → sum_by measure_of rows ≡ total (measures rows) (length rows)
+sum_total rows = ap (sum_by measure_of) (sym (take_all (length rows) rows (omega arith))) ∙ sum_front rows (length rows) (omega arith)
+
+-- it fits where the units are few and their measures are those that adding takes
+pub sum_fits : (rows : List UnitRecord) → length rows ≤ 1024 → Measured rows → sum_by measure_of rows < 2 ^ 32
+sum_fits rows few old = omega (arith, sum_total rows, total_small (measures rows) (length rows) (λ i h. (old i h).1))
 
 -- a split with one unit more
 pub split_more : (m : ℕ → ℕ) (C : Units) (i : ℕ) (s t : Split) (b : Bool) (x : ℕ) → s ≡ split_of m C i → b ≡ C i → x ≡ m i → t ≡ one_more s b x →
@@ -40,10 +47,10 @@ pub positive : (rows : List UnitRecord) → Measured rows → Positive (length r
 positive rows h i l = (h i l).0
 
 -- A round from one split to the next.
-abbrev pub Round : (ℕ → ℕ) → ℕ → ℕ → Split → Split → Type 0
-Round m n k found next = next ≡ split_of m (qualifies m (k - found.certain) found.rest) n
+abbrev pub NextSplit : (ℕ → ℕ) → ℕ → ℕ → Split → Split → Type 0
+NextSplit m n k found next = next ≡ split_of m (qualifies m (k - found.certain) found.rest) n
 
-module _ {n : ℕ} {m : ℕ → ℕ} {k : ℕ} {found next : Split} (r : Reached n m k found.certain found.rest) (e : Round m n k found next) where
+module _ {n : ℕ} {m : ℕ → ℕ} {k : ℕ} {found next : Split} (r : Reached n m k found.certain found.rest) (e : NextSplit m n k found next) where
   -- the rounds come to it
   pub round_on : Positive n m → Reached n m k next.certain next.rest
   round_on pos = subst (λ (s : Split). Reached n m k s.certain s.rest) (sym e) (reached_round r pos)
@@ -57,22 +64,26 @@ module _ {n : ℕ} {m : ℕ → ℕ} {k : ℕ} {found next : Split} (r : Reached
       subst (CertainSplit n m k) (sym (e ∙ back)) (record { certain = stop.0; split = back })
 
 -- where every unit is in the set nothing is left over, and only there
-pub whole_is : (n : ℕ) (m : ℕ → ℕ) (C : Units) → Positive n m → denominator_by (split_of m C n) ≡ denominator n m C
-whole_is n m C pos =
+pub whole_is : (n : ℕ) (m : ℕ → ℕ) (C : Units) (k : ℕ) → Positive n m → denominator_by (round_of k (split_of m C n)) ≡ denominator n m C
+whole_is n m C k pos =
     elim (cases_eq (count C n) n) [
       | inl e ↦ rw (none_left n m C e, eq-eqb (count C n) n e) refl
       | inr e ↦ rw (ne_eqb (count C n) n e, ne_eqb (rest m C n) 0 (λ z. e (all_certain n m C pos z))) refl
     ]
 
-module _ {n : ℕ} {m : ℕ → ℕ} {k : ℕ} {s : Split} (pos : Positive n m) (c : CertainSplit n m k s) where
+module _ {n : ℕ} {m : ℕ → ℕ} {k : ℕ} {s : Split} (c : CertainSplit n m k s) where
+  -- no more units are certain than places
+  pub certain_few : s.certain ≤ k
+  certain_few = omega (arith, c.certain.few, ap (λ (t : Split). t.certain) c.split)
+
   -- The certain units.
   abbrev pub certain_units : Units
   certain_units = qualifies m (k - s.certain) s.rest
 
   -- the denominator is the one that they give
-  pub denominator_is : denominator_by s ≡ denominator n m certain_units
-  denominator_is = ap denominator_by (sym c.split) ∙ whole_is n m certain_units pos
+  pub denominator_is : Positive n m → denominator_by (round_of k s) ≡ denominator n m certain_units
+  denominator_is pos = ap (λ t. denominator_by (round_of k t)) (sym c.split) ∙ whole_is n m certain_units k pos
 
   -- and so is each numerator
-  pub numerator_is : (i : ℕ) → numerator_by (k - s.certain) s (m i) ≡ numerator n m k certain_units i
-  numerator_is i = λ j. cond (certain_units i) (denominator_is j) (m i * (k - (sym c.split j).certain))
+  pub numerator_is : Positive n m → (i : ℕ) → numerator_by (round_of k s) (m i) ≡ numerator n m k certain_units i
+  numerator_is pos i = λ j. cond (certain_units i) (denominator_is pos j) (m i * (k - (sym c.split j).certain))

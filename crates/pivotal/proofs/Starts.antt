@@ -32,10 +32,6 @@ starting_more rows given rows' i x h old e =
 pub starting_measure : {rows rows' : List UnitRecord} {given : ℕ → ℕ} {i : ℕ} → Starting rows given rows' i → measures rows' i ≡ measures rows i
 starting_measure {i = i} old = ap (λ (unit : UnitRecord). unit.measure) (old.after i (omega arith))
 
--- which is one that adding takes
-pub starting_small : {base rows rows' : List UnitRecord} {given : ℕ → ℕ} {i : ℕ} → rows ≡ base → Measured base → i < length rows → Starting rows given rows' i → measures rows' i ≤ 1000000
-starting_small {i = i} same h l old = rw (starting_measure old) (subst Measured (sym same) h i l).1
-
 -- all units
 pub starting_all : {base rows rows' rows'' : List UnitRecord} (given : ℕ → ℕ) {i : ℕ} → rows ≡ base → rows'' ≡ rows' → length rows ≤ i → Starting rows (λ k. given (measures rows k)) rows' i →
     Started base (λ k. given (measures base k)) rows''

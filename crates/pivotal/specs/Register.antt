@@ -17,6 +17,9 @@ register table = record { rows = vec_items table.records; over = table.denominat
 abbrev pub blank : UnitRecord
 blank = record { measure = 0; start = 0; present = 0 }
 
+abbrev pub measure_of : UnitRecord → ℕ
+measure_of unit = unit.measure
+
 -- The measure, the start numerator and the present numerator of each unit.
 abbrev pub measures : List UnitRecord → ℕ → ℕ
 measures rows i = (slice_index_or rows i blank).measure

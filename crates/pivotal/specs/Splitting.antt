@@ -3,6 +3,7 @@ use Rattle.std.specs.Prelude.{◌≡◌, ℕ, ◌+◌, ◌-◌, ◌*◌, Bool, c
 use Rattle.structures.specs.Meaning.{Units}
 use Rattle.terms.specs.Counts.{count}
 use Rattle.pivotal.specs.Certain.{Certain, rest}
+use Rattle.pivotal.specs.declared.setting.Round.{Round}
 use Rattle.pivotal.specs.declared.setting.Split.{Split}
 
 -- The units whose measure times K is at least W.
@@ -17,13 +18,17 @@ split_of measure C n = record { certain = count C n; rest = rest measure C n }
 abbrev pub one_more : Split → Bool → ℕ → Split
 one_more s b measure = record { certain = s.certain + cond b 1 0; rest = s.rest + cond b 0 measure }
 
--- The denominator that a split gives: what is left over, or 1 where nothing is.
-abbrev pub denominator_by : Split → ℕ
-denominator_by s = cond (s.rest == 0) 1 s.rest
+-- The round that follows a split for the size k: each certain unit has taken a place.
+abbrev pub round_of : ℕ → Split → Round
+round_of k s = record { places = k - s.certain; rest = s.rest }
 
--- The numerator that a split gives to a measure, with so many places left.
-abbrev pub numerator_by : ℕ → Split → ℕ → ℕ
-numerator_by places s measure = cond (nat_le s.rest (measure * places)) (denominator_by s) (measure * places)
+-- The denominator that a round gives: what is left over, or 1 where nothing is.
+abbrev pub denominator_by : Round → ℕ
+denominator_by round = cond (round.rest == 0) 1 round.rest
+
+-- The numerator that a round gives to a measure.
+abbrev pub numerator_by : Round → ℕ → ℕ
+numerator_by round measure = cond (nat_le round.rest (measure * round.places)) (denominator_by round) (measure * round.places)
 
 -- The split by the certain units, which are the units that qualify by it.
 pub record CertainSplit (n : ℕ) (measure : ℕ → ℕ) (k : ℕ) (s : Split) : Type 0 where

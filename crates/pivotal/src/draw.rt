@@ -1,9 +1,10 @@
 // A draw over a structure.
-ghost use Rattle.std.specs.Prelude.{◌≡◌, ◌≤◌, [], IfErr, None, vec_len, vec_capacity};
+ghost use Rattle.std.specs.Prelude.{◌≡◌, ◌≤◌, [], IfErr, MatchResult, Some, None, vec_len, vec_capacity};
 ghost use Rattle.pivotal.specs.Adding.{Added};
 ghost use Rattle.pivotal.specs.Register.{register, Measured};
 ghost use Rattle.terms.specs.Faults.{tells};
 
+use crate::set_units::SetUnits;
 use crate::table::{Table, UnitRecord};
 use std::alloc::Global;
 use structures::Structure;
@@ -59,5 +60,18 @@ impl<S: Structure> Draw<S> {
             present: 0,
         })?;
         Ok(unit)
+    }
+}
+
+impl<S> Draw<S> {
+    // The units of the draw with their denominator. A draw that is not set is refused.
+    pub(crate) fn set_units(&self) -> Result<SetUnits<'_>, Fault>
+        ensures { MatchResult result (λ units. (self.now.table.denominator ≡ Some units.denominator) × (units.records.now ≡ self.now.table.records.items)) (λ fault. (self.now.table.denominator ≡ None) × (tells fault ≡ (10, 0))) }
+    {
+        let denominator = self.table.denominator.ok_or(Fault::NotSet)?;
+        Ok(SetUnits {
+            records: &self.table.records,
+            denominator,
+        })
     }
 }

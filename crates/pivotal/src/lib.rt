@@ -3,6 +3,7 @@
 
 mod draw;
 mod questions;
+mod set_units;
 mod setting;
 mod settling;
 mod stepping;

@@ -1,10 +1,9 @@
 // Setting a draw by size: the rounds that find the certain units, and the numerators that follow.
-ghost use Rattle.std.specs.Prelude.{◌≡◌, ◌*◌, ◌≤◌, length, Some, vec_len, nat_le};
+ghost use Rattle.std.specs.Prelude.{◌≡◌, ◌*◌, ◌^◌, ◌<◌, ◌≤◌, length, Some, sum_by, nat_le};
 ghost use Rattle.pivotal.specs.Certain.{CertainUnitsAreDetermined, ChancesAreProper};
-ghost use Rattle.pivotal.specs.Register.{measures, register, Measured};
+ghost use Rattle.pivotal.specs.Register.{measure_of, measures, register};
 ghost use Rattle.pivotal.specs.Setting.{Sized, Started};
-ghost use Rattle.pivotal.specs.Splitting.{qualifies, split_of, one_more, denominator_by, numerator_by, CertainSplit};
-ghost use Rattle.terms.specs.Counts.{total};
+ghost use Rattle.pivotal.specs.Splitting.{qualifies, split_of, one_more, round_of, denominator_by, numerator_by, CertainSplit};
 
 use crate::draw::Draw;
 use crate::table::{Table, UnitRecord};
@@ -15,6 +14,13 @@ use terms::Fault;
 #[derive(Clone, Copy)]
 pub(crate) struct Split {
     pub certain: u32,
+    pub rest: u32,
+}
+
+// What a round weighs measures by: the places that are left, and what the measures without one come to.
+#[derive(Clone, Copy)]
+pub(crate) struct Round {
+    pub places: u32,
     pub rest: u32,
 }
 
@@ -39,65 +45,79 @@ impl Split {
         }
     }
 
-    // The denominator: what the others come to, or 1 where every unit is certain.
+    // What the next round weighs by: each certain unit has taken a place.
+    fn round(self, size: u32) -> Round
+        requires { self.certain ≤ size }
+        ensures { result ≡ round_of size self }
+    {
+        Round {
+            places: size - self.certain,
+            rest: self.rest,
+        }
+    }
+}
+
+impl Round {
+    // Whether a measure times the places left is at least the rest.
+    fn makes_certain(self, measure: u32) -> bool
+        ensures { result ≡ nat_le self.rest (measure * self.places) }
+    {
+        measure as u64 * self.places as u64 >= self.rest as u64
+    }
+
+    // The denominator: the rest, or 1 where every unit is certain.
     fn denominator(self) -> u32
         ensures { result ≡ denominator_by self }
     {
         if self.rest == 0 { 1 } else { self.rest }
     }
-}
-
-impl UnitRecord {
-    // Whether the measure times the places left is at least what the others come to.
-    fn is_certain(&self, places: u32, rest: u32) -> bool
-        requires measure { self.now.measure ≤ 1000000 }
-        requires places { places ≤ 1024 }
-        ensures { result ≡ nat_le rest (self.now.measure * places) }
-    {
-        self.measure * places >= rest
-    }
 
     // The whole denominator for a certain unit, else the measure times the places left.
-    fn numerator(&self, places: u32, split: Split) -> u32
-        requires measure { self.now.measure ≤ 1000000 }
-        requires places { places ≤ 1024 }
-        ensures { result ≡ numerator_by places split self.now.measure }
+    fn numerator(self, measure: u32) -> u32
+        ensures { result ≡ numerator_by self measure }
     {
-        if self.is_certain(places, split.rest) {
-            split.denominator()
+        if self.makes_certain(measure) {
+            self.denominator()
         } else {
-            self.measure * places
+            measure * self.places
         }
     }
 }
 
 impl Table {
-    // What all measures come to.
-    fn total_measure(&self) -> u32
-        requires few { vec_len self.now.records ≤ 1024 }
-        requires measured { Measured self.now.records.items }
-        ensures { result ≡ total (measures self.now.records.items) (length self.now.records.items) }
+    // Gives every unit the numerator that it starts with, and sets the denominator.
+    fn start(&mut self, round: Round)
+        ensures over { self.new.denominator ≡ Some (denominator_by round) }
+        ensures started { Started self.old.records.items (λ i. numerator_by round (measures self.old.records.items i)) self.new.records.items }
     {
-        let mut sum = 0;
-        for record in self.records.iter() {
-            sum += record.measure;
+        for record in self.records.iter_mut() {
+            let numerator = round.numerator(record.measure);
+            record.start = numerator;
+            record.present = numerator;
         }
-        sum
+        self.denominator = Some(round.denominator());
     }
+}
 
-    // One round: the split by the units that are certain with so many places and such a rest.
-    fn split_by(&self, places: u32, rest: u32) -> Split
-        requires few { vec_len self.now.records ≤ 1024 }
-        requires measured { Measured self.now.records.items }
-        requires places { places ≤ 1024 }
-        ensures { result ≡ split_of (measures self.now.records.items) (qualifies (measures self.now.records.items) places rest) (length self.now.records.items) }
+// What the measures of these units come to.
+fn total_measure(units: &[UnitRecord]) -> u32
+    requires { sum_by measure_of units.now < 2 ^ 32 }
+    ensures { result ≡ sum_by measure_of units.now }
+{
+    units.iter().map(|unit| unit.measure).sum()
+}
+
+impl<S> Draw<S> {
+    // The split by the units that are certain in this round.
+    fn split_by(&self, round: Round) -> Split
+        ensures { result ≡ split_of (measures self.now.table.records.items) (qualifies (measures self.now.table.records.items) round.places round.rest) (length self.now.table.records.items) }
     {
         let mut split = Split {
             certain: 0,
             rest: 0,
         };
-        for record in self.records.iter() {
-            split = split.count(record.is_certain(places, rest), record.measure);
+        for unit in self.table.records.iter() {
+            split = split.count(round.makes_certain(unit.measure), unit.measure);
         }
         split
     }
@@ -105,38 +125,19 @@ impl Table {
     // The split by the certain units. A certain unit takes a place and its measure away, which can
     // make others certain, so the rounds go on until one finds no more.
     fn certain_split(&self, size: u32) -> Split
-        requires few { vec_len self.now.records ≤ 1024 }
-        requires measured { Measured self.now.records.items }
-        requires size { size ≤ 1024 }
-        ensures { CertainSplit (length self.now.records.items) (measures self.now.records.items) size result }
+        ensures { CertainSplit (length self.now.table.records.items) (measures self.now.table.records.items) size result }
     {
         let mut found = Split {
             certain: 0,
-            rest: self.total_measure(),
+            rest: total_measure(&self.table.records),
         };
         loop {
-            let next = self.split_by(size - found.certain, found.rest);
+            let next = self.split_by(found.round(size));
             if next.certain == found.certain {
                 return next;
             }
             found = next;
         }
-    }
-
-    // Gives every unit the numerator that it starts with, and sets the denominator.
-    fn start(&mut self, places: u32, split: Split)
-        requires measured { Measured self.old.records.items }
-        requires places { places ≤ 1024 }
-        ensures over { self.new.denominator ≡ Some (denominator_by split) }
-        ensures started { Started self.old.records.items (λ i. numerator_by places split (measures self.old.records.items i)) self.new.records.items }
-        ensures same_len { vec_len self.new.records ≡ vec_len self.old.records }
-    {
-        for record in self.records.iter_mut() {
-            let numerator = record.numerator(places, split);
-            record.start = numerator;
-            record.present = numerator;
-        }
-        self.denominator = Some(split.denominator());
     }
 }
 
@@ -159,8 +160,8 @@ impl<S: Structure> Draw<S> {
         if size == 0 || size as usize > added {
             return Err(Fault::SizeOutOfRange);
         }
-        let split = self.table.certain_split(size);
-        self.table.start(size - split.certain, split);
+        let split = self.certain_split(size);
+        self.table.start(split.round(size));
         Ok(())
     }
 }

@@ -86,13 +86,10 @@ impl<S: Structure> Draw<S> {
         ensures even { SettlingIsEven }
         ensures same_structure { self.new.structure ≡ self.old.structure }
     {
-        let Some(denominator) = self.table.denominator else {
-            return Err(Fault::NotSet);
-        };
-        let Some(lowest) = self.table.lowest_open(denominator) else {
-            return Err(Fault::NothingOpen);
-        };
-        let marks = self.table.open_marks(denominator);
+        let units = self.set_units()?;
+        let lowest = units.lowest_open().ok_or(Fault::NothingOpen)?;
+        let marks = units.open_marks();
+        let denominator = units.denominator;
         let Some((first, second)) = self.structure.choice(&marks) else {
             return self.table.settle_alone(denominator, lowest, words);
         };

@@ -1,7 +1,7 @@
 // The table of units. A write to it goes through a loan of a single record.
 ghost use Rattle.std.specs.Borrow.{follows, sem};
-ghost use Rattle.std.specs.Prelude.{◌≡◌, ℕ, ◌<◌, ◌≤◌, not, length, vec_len, ◌==◌, slice_index, slice_index_or};
-ghost use Rattle.pivotal.specs.Register.{between, opened, presents, FindsOpen};
+ghost use Rattle.std.specs.Prelude.{◌≡◌, ◌<◌, vec_len, ◌==◌, slice_index_or};
+ghost use Rattle.pivotal.specs.Register.{between, presents};
 ghost use Rattle.pivotal.specs.contracts.table.Table.{the_row};
 ghost use Rattle.pivotal.specs.contracts.table.UnitRecord.{the_row as record_row};
 ghost use Rattle.std.specs.Vec.{with_item};
@@ -16,7 +16,7 @@ pub struct UnitRecord {
     pub present: u32,
 }
 
-// Plain memory: what has to hold of it is said where it is used.
+// Plain memory: what has to hold of it is said by the draw that holds it.
 #[derive(Drop)]
 pub(crate) struct Table {
     pub(crate) records: Vec<UnitRecord>,
@@ -30,35 +30,16 @@ impl UnitRecord {
     {
         0 < self.present && self.present < denominator
     }
+
+    // Whether the unit's numerator is the denominator.
+    pub(crate) fn is_drawn(&self, denominator: u32) -> bool
+        ensures { result ≡ (self.now.present == denominator) }
+    {
+        self.present == denominator
+    }
 }
 
 impl Table {
-    // The lowest-numbered open unit.
-    pub(crate) fn lowest_open(&self, denominator: u32) -> Option<UnitNo>
-        requires { vec_len self.now.records ≤ 1024 }
-        ensures { FindsOpen denominator self.now.records.items result }
-    {
-        for (i, record) in self.records.iter().enumerate() {
-            if record.is_open(denominator) {
-                return Some(UnitNo(i as u16));
-            }
-        }
-        None
-    }
-
-    // A byte for each unit that there can be: 1 where the unit is open, else 0.
-    pub(crate) fn open_marks(&self, denominator: u32) -> [u8; 1024]
-        requires { vec_len self.now.records ≤ 1024 }
-        ensures len { length result ≡ 1024 }
-        ensures marks { (i : ℕ) → not (slice_index result i == 0) ≡ opened denominator self.now.records.items i }
-    {
-        let mut marks = [0u8; 1024];
-        for (i, record) in self.records.iter().enumerate() {
-            marks[i] = record.is_open(denominator) as u8;
-        }
-        marks
-    }
-
     // The present numerator of a unit.
     pub(crate) fn present_of(&self, unit: UnitNo) -> u32
         requires { unit.0 < vec_len self.now.records }

@@ -2,7 +2,7 @@ use Rattle.std.proofs.Common.{Some, vec_items, sym, refl, ap, ◌∙◌, inl, in
 use Rattle.pivotal.proofs.CertainUnits.{certain_units_are_determined}
 use Rattle.pivotal.proofs.Chances.{chances_are_proper}
 use Rattle.pivotal.proofs.Options.{some_from, none_from}
-use Rattle.pivotal.proofs.Splits.{denominator_is, numerator_is, positive}
+use Rattle.pivotal.proofs.Splits.{certain_few, denominator_is, numerator_is, positive}
 use Rattle.pivotal.proofs.Starts.{started_measured, started_same}
 use Rattle.pivotal.proofs.draw.Draw.set_by_size.Goals as goal
 use Rattle.pivotal.proofs.draw.Draw.set_by_size.Goals.{then-size-eq0-via-then-size-eq0, then-size-eq0-via-else-size-eq0+then-size-added}
@@ -37,10 +37,14 @@ returns-then-size-eq0 g c =
       proper = chances_are_proper;
     }
 
+pub round-requires : goal.round-requires
+round-requires g c = certain_few c.certain_split-split.ensures
+
 pub invariant_of-self : goal.invariant_of-self
 invariant_of-self g c =
     let self = c.args.self.now in
-    record { few = omega (arith, self.few, c.start.ensures.same_len); measured = started_measured c.start.ensures.started self.measured }
+    let same = c.start.ensures.started.same_units in
+    record { few = omega (arith, self.few, same, self.table.records.ok.0, c.start.new.self.records.ok.0); measured = started_measured c.start.ensures.started self.measured }
 
 pub returns : goal.returns
 returns g c =
@@ -50,7 +54,7 @@ returns g c =
     let split = c.certain_split-split.ensures in
     record {
       sized = Sized.sized (none_from _ (sym c.if-is_some.ensures)) (omega arith) (omega arith) (omega arith) split.certain
-          (c.start.ensures.over ∙ ap Some (denominator_is pos split)) (started_same (numerator_is pos split) c.start.ensures.started);
+          (rw c.round.ensures at c.start.ensures.over ∙ ap Some (denominator_is split pos)) (started_same (numerator_is split pos) (rw c.round.ensures at c.start.ensures.started));
       same_structure = refl;
       determined = certain_units_are_determined;
       proper = chances_are_proper;

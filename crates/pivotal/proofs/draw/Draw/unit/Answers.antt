@@ -1,19 +1,14 @@
 use Rattle.std.proofs.Common.{refl}
-use Rattle.pivotal.proofs.Options.{some_from, none_from}
+use Rattle.std.proofs.lemmas.Result.{err_from_is_err_and}
+use Rattle.pivotal.proofs.Told.{unit_told}
 use Rattle.pivotal.proofs.draw.Draw.unit.Goals as goal
 use Rattle.pivotal.specs.Questions.{ToldUnit}
-use Rattle.pivotal.specs.Register.{blank}
 
-pub returns-then-is_none : goal.returns-then-is_none
-returns-then-is_none g c = ToldUnit.not_set (none_from _ c.if-is_none.ensures) refl
-
-pub returns-in_default : goal.returns-in_default
-returns-in_default g c =
-    let s = some_from c.args.self.now.table.denominator c.if-is_none.ensures in
-    ToldUnit.too_high s.1 (rw c.deref.ensures.value at c.in_default.ensures.lookup.3) refl
+pub returns-in_err-units : goal.returns-in_err-units
+returns-in_err-units g c =
+    let p = err_from_is_err_and c.from_residual.result c.from_residual.ensures.1 in
+    rw (p.1, p.2) (ToldUnit.not_set c.in_err-units.ensures.0 c.in_err-units.ensures.1)
 
 pub returns : goal.returns
 returns g c =
-    let s = some_from c.args.self.now.table.denominator c.if-is_none.ensures in
-    let found = rw c.deref.ensures.value at c.in-Some.ensures.lookup.3 in
-    ToldUnit.told s.1 found.0 (found.1 blank)
+    rw (c.ok_or.ensures.value, c.copied.ensures) (unit_told _ _ c.get-record.result c.in_ok-units.ensures.0 (rw c.in_ok-units.ensures.1 at c.get-record.ensures.lookup.3))

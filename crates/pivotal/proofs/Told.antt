@@ -1,0 +1,15 @@
+-- What looking up a unit tells.
+use Rattle.std.proofs.Common.{◌≡◌, ℕ, ◌<◌, ◌≤◌, List, length, Some, None, Option, Bor, refl}
+use Rattle.std.specs.List.{HoldsAt}
+use Rattle.std.specs.Option.{MatchOption, ok_or, option_copied}
+use Rattle.terms.specs.declared.fault.Fault.TheVariants.{NumberTooHigh}
+use Rattle.pivotal.specs.Questions.{ToldUnit}
+use Rattle.pivotal.specs.Register.{Register, blank}
+use Rattle.pivotal.specs.declared.table.UnitRecord.{UnitRecord}
+
+-- the record that was found, or that the number is too high
+pub unit_told : (R : Register) (i : ℕ) {D : ℕ} (found : Option (Bor UnitRecord)) → R.over ≡ Some D →
+    MatchOption found (length R.rows ≤ i) (λ x. (i < length R.rows) × HoldsAt (λ y. x.now ≡ y) R.rows i) →
+    ToldUnit R i (ok_or (option_copied found) NumberTooHigh)
+unit_told R i None over past = ToldUnit.too_high over past refl
+unit_told R i (Some x) over there = ToldUnit.told over there.0 (there.1 blank)
