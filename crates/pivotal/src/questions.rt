@@ -12,8 +12,7 @@ impl<S> Draw<S> {
     pub fn unit(&self, unit: UnitNo) -> Result<UnitRecord, Fault>
         ensures { ToldUnit (register self.now.table) unit.0 result }
     {
-        let units = self.set_units()?;
-        let record = units.records.get(unit.0 as usize);
+        let record = self.set_units()?.records.get(unit.0 as usize);
         record.copied().ok_or(Fault::NumberTooHigh)
     }
 

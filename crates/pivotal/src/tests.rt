@@ -1,4 +1,5 @@
-// Worked examples and edges, each run after it is proved.
+// Worked examples and edges, each run after it is proved. A refusal is compared by its number and
+// its place.
 use crate::Draw;
 use crate::settling::settle;
 use crate::table::{Table, UnitRecord};
@@ -31,23 +32,6 @@ fn check_presents<S>(rt: &impl Abort, draw: &Draw<S>, wanted: &[u32]) -> Result<
         assert_eq!(rt; draw.unit(UnitNo(u16::try_from(i)?))?.present, *present);
     }
     Ok(())
-}
-
-// Refused, with this number and place.
-fn check_refused<T: Drop>(
-    rt: &impl Abort,
-    answer: Result<T, Fault>,
-    number: u8,
-    place: u64,
-) -> Result<(), Fail> {
-    match answer {
-        Ok(_) => Err(Fail::new("not refused")),
-        Err(fault) => {
-            assert_eq!(rt; fault.number(), number);
-            assert_eq!(rt; fault.place(), place);
-            Ok(())
-        }
-    }
 }
 
 #[test]
@@ -114,34 +98,36 @@ fn sizes(rt: HostRuntime) -> Result<(), Fail> {
         added(rt.alloc(), &measures)?.set_by_size(size)?;
     }
     for size in [0, 4] {
-        check_refused(&rt, added(rt.alloc(), &measures)?.set_by_size(size), 5, 0)?;
+        let mut draw = added(rt.alloc(), &measures)?;
+        assert_eq!(rt; draw.set_by_size(size).map_err(Fault::tells), Err((5, 0)));
     }
     let mut empty = added(rt.alloc(), &[])?;
-    check_refused(&rt, empty.set_by_size(0), 5, 0)?;
-    check_refused(&rt, empty.set_by_size(1), 5, 0)?;
+    assert_eq!(rt; empty.set_by_size(0).map_err(Fault::tells), Err((5, 0)));
+    assert_eq!(rt; empty.set_by_size(1).map_err(Fault::tells), Err((5, 0)));
     check_presents(&rt, &set(rt.alloc(), &[7], 1)?, &[1])
 }
 
 #[test]
 fn measures(rt: HostRuntime) -> Result<(), Fail> {
     let mut draw = Draw::new(rt.alloc(), Line::new(2)?);
-    check_refused(&rt, draw.add(0), 3, 0)?;
+    assert_eq!(rt; draw.add(0).map_err(Fault::tells), Err((3, 0)));
     assert_eq!(rt; draw.add(1_000_000)?.0, 0);
-    check_refused(&rt, draw.add(1_000_001), 3, 1)?;
-    check_refused(&rt, draw.set_by_size(1), 4, 1)?;
+    assert_eq!(rt; draw.add(1_000_001).map_err(Fault::tells), Err((3, 1)));
+    assert_eq!(rt; draw.set_by_size(1).map_err(Fault::tells), Err((4, 1)));
     assert_eq!(rt; draw.add(1)?.0, 1);
-    check_refused(&rt, draw.add(0), 2, 0)?;
+    assert_eq!(rt; draw.add(0).map_err(Fault::tells), Err((2, 0)));
     draw.set_by_size(1)?;
-    check_refused(&rt, draw.add(0), 1, 0)?;
-    check_refused(&rt, draw.set_by_size(0), 1, 0)
+    assert_eq!(rt; draw.add(0).map_err(Fault::tells), Err((1, 0)));
+    assert_eq!(rt; draw.set_by_size(0).map_err(Fault::tells), Err((1, 0)));
+    Ok(())
 }
 
 #[test]
 fn units(rt: HostRuntime) -> Result<(), Fail> {
     let mut draw = added(rt.alloc(), &[1, 1, 2])?;
-    check_refused(&rt, draw.unit(UnitNo(3)), 10, 0)?;
+    assert_eq!(rt; draw.unit(UnitNo(3)).map_err(Fault::tells), Err((10, 0)));
     draw.set_by_size(2)?;
-    check_refused(&rt, draw.unit(UnitNo(3)), 13, 0)?;
+    assert_eq!(rt; draw.unit(UnitNo(3)).map_err(Fault::tells), Err((13, 0)));
     assert_eq!(rt; draw.unit(UnitNo(2))?.measure, 2);
     Ok(())
 }
@@ -150,11 +136,11 @@ fn units(rt: HostRuntime) -> Result<(), Fail> {
 fn rolls(rt: HostRuntime) -> Result<(), Fail> {
     let mut list = [9; 3];
     let mut draw = set(rt.alloc(), &[1, 1, 2], 2)?;
-    check_refused(&rt, draw.roll(&mut list), 14, 0)?;
+    assert_eq!(rt; draw.roll(&mut list).map_err(Fault::tells), Err((14, 0)));
     let mut words = Tape::new(rt.alloc());
     words.fill(2, &[1])?;
     draw.step(&mut words)?;
-    check_refused(&rt, draw.roll(&mut [0]), 15, 2)?;
+    assert_eq!(rt; draw.roll(&mut [0]).map_err(Fault::tells), Err((15, 2)));
     assert_eq!(rt; draw.roll(&mut list)?, 2);
     assert_eq!(rt; list, [1, 2, 9]);
     Ok(())
@@ -169,9 +155,9 @@ fn words_that_run_out(rt: HostRuntime) -> Result<(), Fail> {
     assert_eq!(rt; (step.bound, step.number), (60, 40));
     check_presents(&rt, &draw, &[0, 60, 60, 80, 100])?;
     // 60 and 60 over 100 have the bound 80, above the span of 60.
-    check_refused(&rt, draw.step(&mut words), 7, 0)?;
+    assert_eq!(rt; draw.step(&mut words).err().map(Fault::tells), Some((7, 0)));
     words.fill(81, &[80])?;
-    check_refused(&rt, draw.step(&mut words), 8, 1)?;
+    assert_eq!(rt; draw.step(&mut words).err().map(Fault::tells), Some((8, 1)));
     check_presents(&rt, &draw, &[0, 60, 60, 80, 100])
 }
 
