@@ -1,13 +1,13 @@
 -- Settling in the table is settling in the register.
-use Rattle.std.proofs.Common.{◌≡◌, ℕ, ◌+◌, ◌-◌, ◌*◌, ◌<◌, false, ltb, List, length, get_or, set, Ok, Err, Option, sym, refl, ap, ◌∙◌, subst, inl, inr, arith}
+use Rattle.std.proofs.Common.{◌≡◌, ℕ, ◌<◌, List, length, get_or, set, Ok, Err, Option, sym, refl, ap, ◌∙◌, subst, inl, inr, arith}
 use Rattle.std.proofs.lemmas.List.{get_or-set_same, get_or-set_other, length-set}
-use Rattle.std.proofs.lemmas.Bool.{cases_eq, cond-false, le-ltb}
+use Rattle.std.proofs.lemmas.Bool.{cases_eq}
 use Rattle.terms.specs.declared.fault.Fault.{Fault}
 use Rattle.words.specs.Drawing.{Drawn}
 use Rattle.words.specs.Source.{Source}
 use Rattle.pivotal.proofs.Rows.{Takeable}
 use Rattle.pivotal.specs.Register.{blank, presents, Measured}
-use Rattle.pivotal.specs.Settling.{settling, outcome, ResidueSettles}
+use Rattle.pivotal.specs.Settling.{settling, outcome}
 use Rattle.pivotal.specs.Stepping.{Settles, renumbered, settled, step_record}
 use Rattle.pivotal.specs.declared.settling.Settling.{Settling}
 use Rattle.pivotal.specs.declared.table.UnitRecord.{UnitRecord}
@@ -43,12 +43,3 @@ measured_renumbered rows i a old k h =
       | inl e ↦ subst (λ n. Takeable (get_or (renumbered rows i a) n blank)) (sym e) (subst Takeable (sym (get_or-set_same rows i _ blank (subst (λ n. n < length rows) e within))) (old i (subst (λ n. n < length rows) e within)))
       | inr ne ↦ subst Takeable (sym (get_or-set_other rows i k _ blank ne)) (old k within)
     ]
-
--- settling against what is lacking
-pub residue_settles : ResidueSettles
-residue_settles D a h =
-    let over : ltb (a + (D - a)) D ≡ false = le-ltb (a + (D - a)) D (omega arith) in
-    let bound : 2 * D - (a + (D - a)) ≡ D = omega arith in
-    let firsts : D - (D - a) ≡ a = omega arith in
-    let left : a + (D - a) - D ≡ 0 = omega arith in
-    cond-false _ _ _ over ∙ (λ i. record { bound = bound i; firsts = firsts i; first = (D, left i); second = (left i, D) })

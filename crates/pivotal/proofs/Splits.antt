@@ -1,5 +1,5 @@
 -- Splits of the units, the rounds that find the one by the certain units, and what it gives.
-use Rattle.std.proofs.Common.{◌≡◌, ℕ, zero, suc, ◌+◌, ◌-◌, ◌*◌, ◌^◌, ◌<◌, ◌≤◌, Bool, cond, List, length, take, sum_by, sym, refl, ap, ◌∙◌, subst, inl, inr, add-one, arith}
+use Rattle.std.proofs.Common.{◌≡◌, ℕ, zero, suc, ◌+◌, ◌-◌, ◌*◌, ◌^◌, ◌<◌, ◌≤◌, cond, List, length, take, sum_by, sym, refl, ap, ◌∙◌, subst, inl, inr, add-one, arith}
 use Rattle.std.proofs.lemmas.List.{take_all}
 use Rattle.std.proofs.lemmas.List.Sums.{sum_by_more}
 use Rattle.std.proofs.lemmas.Bool.{cases_eq, cond_both, eq-eqb, ne_eqb}
@@ -8,7 +8,7 @@ use Rattle.terms.specs.Counts.{total, count}
 use Rattle.terms.proofs.Totals.{count_le}
 use Rattle.pivotal.specs.Certain.{denominator, numerator, rest}
 use Rattle.pivotal.specs.Register.{blank, Measured, measure_of, measures}
-use Rattle.pivotal.specs.Splitting.{qualifies, split_of, one_more, round_of, denominator_by, numerator_by, CertainSplit}
+use Rattle.pivotal.specs.Splitting.{qualifies, split_of, round_of, denominator_by, numerator_by, CertainSplit}
 use Rattle.pivotal.specs.declared.setting.Split.{Split}
 use Rattle.pivotal.specs.declared.table.UnitRecord.{UnitRecord}
 use Rattle.pivotal.proofs.Rounds.{Positive, Reached, all_certain, none_left, reached_round, reached_stop}
@@ -30,11 +30,6 @@ sum_total rows = ap (sum_by measure_of) (sym (take_all (length rows) rows (omega
 -- it fits where the units are few and their measures are those that adding takes
 pub sum_fits : (rows : List UnitRecord) → length rows ≤ 1024 → Measured rows → sum_by measure_of rows < 2 ^ 32
 sum_fits rows few old = omega (arith, sum_total rows, total_small (measures rows) (length rows) (λ i h. (old i h).1))
-
--- a split with one unit more
-pub split_more : (m : ℕ → ℕ) (C : Units) (i : ℕ) (s t : Split) (b : Bool) (x : ℕ) → s ≡ split_of m C i → b ≡ C i → x ≡ m i → t ≡ one_more s b x →
-    t ≡ split_of m C (i + 1)
-split_more m C i s t b x p q r e = rw add-one (e ∙ (λ j. one_more (p j) (q j) (r j)))
 
 -- a split counts at most the units, and leaves at most their measures
 pub split_small : (m : ℕ → ℕ) (C : Units) (n : ℕ) (s : Split) → s ≡ split_of m C n → ((i : ℕ) → i < n → m i ≤ 1000000) → (s.certain ≤ n) × (s.rest ≤ 1000000 * n)
@@ -72,10 +67,6 @@ whole_is n m C k pos =
     ]
 
 module _ {n : ℕ} {m : ℕ → ℕ} {k : ℕ} {s : Split} (c : CertainSplit n m k s) where
-  -- no more units are certain than places
-  pub certain_few : s.certain ≤ k
-  certain_few = omega (arith, c.certain.few, ap (λ (t : Split). t.certain) c.split)
-
   -- The certain units.
   abbrev pub certain_units : Units
   certain_units = qualifies m (k - s.certain) s.rest

@@ -1,5 +1,5 @@
 -- What looking up a unit tells.
-use Rattle.std.proofs.Common.{◌≡◌, ℕ, ◌<◌, ◌≤◌, List, length, Some, None, Option, Bor, refl}
+use Rattle.std.proofs.Common.{◌≡◌, ℕ, ◌<◌, ◌≤◌, length, Some, None, Option, Bor, refl}
 use Rattle.std.specs.List.{HoldsAt}
 use Rattle.std.specs.Option.{MatchOption, ok_or, option_copied}
 use Rattle.terms.specs.declared.fault.Fault.TheVariants.{NumberTooHigh}

@@ -18,6 +18,7 @@ impl<S> Draw<S> {
 
     // Writes the numbers of the drawn units, rising, at the front of the list, and tells how many
     // there are. What stands behind them in the list is left as it was.
+    #[tactic(auto, using(crate::proofs::OneRoll::roll_is_determined))]
     pub fn roll(&self, list: &mut [u16]) -> Result<usize, Fault>
         ensures told { ToldRoll (register self.now.table) list.old list.new result }
         ensures determined { RollIsDetermined }

@@ -143,6 +143,7 @@ impl<S> Draw<S> {
 
 impl<S: Structure> Draw<S> {
     // Sets the draw by how many units it is to draw: each unit starts with a chance that follows its measure.
+    #[tactic(auto, using(crate::proofs::CertainUnits::certain_units_are_determined))]
     pub fn set_by_size(&mut self, size: u32) -> Result<(), Fault>
         ensures sized { Sized (S.Structure.meaning self.old.structure) (register self.old.table) size (register self.new.table) result }
         ensures same_structure { self.new.structure ≡ self.old.structure }

@@ -80,6 +80,7 @@ impl Table {
 
 impl<S: Structure> Draw<S> {
     // Settles two open units, chosen by the structure, or the one that is left.
+    #[tactic(auto, using(crate::proofs::Evenness::settling_is_even))]
     pub fn step<W: WordSource>(&mut self, words: &mut W) -> Result<StepRecord, Fault>
         ensures stepped { Stepped (S.Structure.meaning self.old.structure) (register self.old.table) (W.WordSource.source words.old) (register self.new.table) (W.WordSource.source words.new) result }
         ensures residue { ResidueSettles }

@@ -1,4 +1,3 @@
-use Rattle.std.proofs.Common.{refl}
 use Rattle.std.proofs.lemmas.Result.{err_from_is_err_and}
 use Rattle.pivotal.proofs.Told.{unit_told}
 use Rattle.pivotal.proofs.draw.Draw.unit.Goals as goal

@@ -10,14 +10,8 @@ room c =
     let l : c.loop-i.i < length rows = omega arith in
     front_room c.loop-i.invariant c.requires l (drawn_here _ rows _ l (sym c.if-is_drawn.ensures))
 
-pub offset_bounds-list-written : goal.offset_bounds-list-written
-offset_bounds-list-written c = omega (arith, room c)
-
 pub bounds-list-written : goal.bounds-list-written
 bounds-list-written c = omega (arith, room c)
-
-pub overflow_add-written : goal.overflow_add-written
-overflow_add-written c = omega (arith, room c)
 
 pub loop-i-preserved : goal.loop-i-preserved
 loop-i-preserved c =

@@ -1,45 +1,17 @@
-use Rattle.std.proofs.Common.{ℕ, Some, sym, refl, ap, ◌∙◌, subst, arith}
+use Rattle.std.proofs.Common.{ℕ, Some, sym, refl, ap, ◌∙◌, subst}
 use Rattle.std.proofs.lemmas.List.{length-set}
 use Rattle.std.proofs.lemmas.Result.{err_from_is_err_and}
-use Rattle.pivotal.proofs.Rows.{open_there, open_within, open_below, read_row}
+use Rattle.pivotal.proofs.Rows.{open_within, read_row}
 use Rattle.pivotal.proofs.Settled.{failed, succeeded, written_both, measured_renumbered}
 use Rattle.pivotal.proofs.table.Table.settle_pair.Goals as goal
-use Rattle.pivotal.specs.Register.{presents, Measured}
+use Rattle.pivotal.specs.Register.{Measured}
 use Rattle.pivotal.specs.Stepping.{settled}
 
-pub present_of-a-requires : goal.present_of-a-requires
-present_of-a-requires g c = open_there c.args.self.now c.args.denominator c.args.first.0 c.requires.first_open
-
-pub present_of-b-requires : goal.present_of-b-requires
-present_of-b-requires g c = open_there c.args.self.now c.args.denominator c.args.second.0 c.requires.second_open
-
-pub settle-settling-requires : goal.settle-settling-requires
-settle-settling-requires g c =
-    let D = c.args.denominator in
-    let rows = c.args.self.now.records.items in
-    record {
-      a_within = omega (arith, (open_below D (presents rows c.args.first.0) c.requires.first_open).1);
-      b_within = omega (arith, (open_below D (presents rows c.args.second.0) c.requires.second_open).1);
-    }
-
-pub returns-in_err-number : goal.returns-in_err-number
-returns-in_err-number g c =
-    let D = c.args.denominator in
-    let rows = c.args.self.now.records.items in
+pub returns-in_err-number-clause-settles : goal.returns-in_err-number-clause-settles
+returns-in_err-number-clause-settles g c =
     let e = rw (c.present_of-a.ensures, c.present_of-b.ensures) at c.settle-settling.ensures in
     let p = err_from_is_err_and c.from_residual.result c.from_residual.ensures.1 in
-    record {
-      settles = rw (p.1, p.2) (failed D rows c.args.first.0 (Some c.args.second.0) _ _ _ _ e _ c.in_err-number.ensures.drawn);
-      same_len = refl;
-      same_over = refl;
-      measured = λ h. h;
-    }
-
-pub record_mut-requires : goal.record_mut-requires
-record_mut-requires g c = open_there c.args.self.now c.args.denominator c.args.first.0 c.requires.first_open
-
-pub record_mut-requires-2 : goal.record_mut-requires-2
-record_mut-requires-2 g c = open_there c.args.self.now c.args.denominator c.args.second.0 c.requires.second_open
+    rw (p.1, p.2) (failed c.args.denominator c.args.self.now.records.items c.args.first.0 (Some c.args.second.0) _ _ _ _ e _ c.in_err-number.ensures.drawn)
 
 pub returns : goal.returns
 returns g c =
