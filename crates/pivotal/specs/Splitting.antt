@@ -1,5 +1,5 @@
 -- Splitting the units into those that are certain and the others.
-use Rattle.std.specs.Prelude.{◌≡◌, ℕ, ◌+◌, ◌-◌, ◌*◌, Bool, cond, ◌==◌, nat_le}
+use Rattle.std.specs.Prelude.{◌≡◌, ℕ, ◌-◌, ◌*◌, cond, ◌==◌, nat_le}
 use Rattle.structures.specs.Meaning.{Units}
 use Rattle.terms.specs.Counts.{count}
 use Rattle.pivotal.specs.Certain.{Certain, rest}
@@ -13,10 +13,6 @@ qualifies measure K W i = nat_le W (measure i * K)
 -- How many of the first n units are in a set, and what the measures of the others come to.
 abbrev pub split_of : (ℕ → ℕ) → Units → ℕ → Split
 split_of measure C n = record { certain = count C n; rest = rest measure C n }
-
--- A split with one unit more, which is certain or not.
-abbrev pub one_more : Split → Bool → ℕ → Split
-one_more s b measure = record { certain = s.certain + cond b 1 0; rest = s.rest + cond b 0 measure }
 
 -- The round that follows a split for the size k: each certain unit has taken a place.
 abbrev pub round_of : ℕ → Split → Round

@@ -3,7 +3,7 @@ ghost use Rattle.std.specs.Prelude.{◌≡◌, ◌*◌, ◌^◌, ◌<◌, ◌≤
 ghost use Rattle.pivotal.specs.Certain.{CertainUnitsAreDetermined, ChancesAreProper};
 ghost use Rattle.pivotal.specs.Register.{measure_of, measures, register};
 ghost use Rattle.pivotal.specs.Setting.{Sized, Started};
-ghost use Rattle.pivotal.specs.Splitting.{qualifies, split_of, one_more, round_of, denominator_by, numerator_by, CertainSplit};
+ghost use Rattle.pivotal.specs.Splitting.{qualifies, split_of, round_of, denominator_by, numerator_by, CertainSplit};
 
 use crate::draw::Draw;
 use crate::table::{Table, UnitRecord};
@@ -25,26 +25,6 @@ pub(crate) struct Round {
 }
 
 impl Split {
-    // The split once a unit of this measure is counted too.
-    fn count(self, is_certain: bool, measure: u32) -> Split
-        requires certain { self.certain ≤ 1024 }
-        requires rest { self.rest ≤ 1024000000 }
-        requires measure { measure ≤ 1000000 }
-        ensures { result ≡ one_more self is_certain measure }
-    {
-        if is_certain {
-            Split {
-                certain: self.certain + 1,
-                rest: self.rest,
-            }
-        } else {
-            Split {
-                certain: self.certain,
-                rest: self.rest + measure,
-            }
-        }
-    }
-
     // What the next round weighs by: each certain unit has taken a place.
     fn round(self, size: u32) -> Round
         requires { self.certain ≤ size }
@@ -117,7 +97,11 @@ impl<S> Draw<S> {
             rest: 0,
         };
         for unit in self.table.records.iter() {
-            split = split.count(round.makes_certain(unit.measure), unit.measure);
+            if round.makes_certain(unit.measure) {
+                split.certain += 1;
+            } else {
+                split.rest += unit.measure;
+            }
         }
         split
     }
