@@ -1,9 +1,9 @@
 use Rattle.std.proofs.Common.{refl, ap}
 use Rattle.std.proofs.lemmas.Result.{err_from_is_err_and}
+use Rattle.terms.proofs.Telling.{refused_as}
 use Rattle.terms.specs.Faults.{tells}
 use Rattle.words.proofs.Passing.{past_none}
 use Rattle.pivotal.proofs.Choices.{chosen}
-use Rattle.pivotal.proofs.Options.{refused_as}
 use Rattle.pivotal.proofs.draw.Draw.step.Goals as goal
 use Rattle.pivotal.specs.Stepping.{Faces, Stepped}
 
