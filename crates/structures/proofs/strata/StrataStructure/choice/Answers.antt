@@ -6,9 +6,9 @@ use Rattle.structures.specs.Sets.{both}
 use Rattle.structures.specs.Strata.{stratum_at, of_stratum}
 use Rattle.structures.proofs.Masks.{masked_none, masked_past, masked_more, kept, left_out, chosen}
 use Rattle.structures.proofs.Reading.{position, left, Turn, read_none, turn, read_all}
-use Rattle.structures.proofs.strata.methods.StrataStructure.choice.Given.{Over}
-use Rattle.structures.proofs.strata.methods.StrataStructure.choice.Goals as goal
-use Rattle.structures.proofs.strata.methods.StrataStructure.choice.Goals.{In-Some-2, else-mark-ne0-via-then-mark-ne0+else-eq, else-mark-ne0-via-else-mark-ne0}
+use Rattle.structures.proofs.strata.StrataStructure.choice.Given.{Over}
+use Rattle.structures.proofs.strata.StrataStructure.choice.Goals as goal
+use Rattle.structures.proofs.strata.StrataStructure.choice.Goals.{In-Some-2, else-mark-ne0-via-then-mark-ne0+else-eq, else-mark-ne0-via-else-mark-ne0}
 
 pub loop-unit-init : goal.loop-unit-init
 loop-unit-init g c =

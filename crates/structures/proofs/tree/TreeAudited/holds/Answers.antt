@@ -1,7 +1,7 @@
 use Rattle.std.proofs.Common.{◌≡◌, ◌<◌, length, vec_items, rules}
 use Rattle.structures.specs.Drainage.{node_at}
 use Rattle.structures.proofs.Walking.{node_read, walked_more, walked_all}
-use Rattle.structures.proofs.tree.methods.TreeAudited.holds.Goals as goal
+use Rattle.structures.proofs.tree.TreeAudited.holds.Goals as goal
 
 pub loop-node-preserved : goal.loop-node-preserved
 loop-node-preserved c =

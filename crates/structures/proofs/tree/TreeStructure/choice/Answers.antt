@@ -5,8 +5,8 @@ use Rattle.structures.proofs.Walking.{parent_below}
 use Rattle.structures.proofs.Marked.{marked_within}
 use Rattle.structures.proofs.Reading.{ParentsTurn, parents_left, parents_none, parents_turn}
 use Rattle.structures.proofs.Carrying.{Carried, carried_none, carried_over, carried_one, carried_two, carried_all}
-use Rattle.structures.proofs.tree.methods.TreeStructure.choice.Goals as goal
-use Rattle.structures.proofs.tree.methods.TreeStructure.choice.Goals.{In-Some, In-One}
+use Rattle.structures.proofs.tree.TreeStructure.choice.Goals as goal
+use Rattle.structures.proofs.tree.TreeStructure.choice.Goals.{In-Some, In-One}
 
 pub loop-node-init : goal.loop-node-init
 loop-node-init c =

@@ -2,7 +2,7 @@ use Rattle.std.proofs.Common.{length, vec_items}
 use Rattle.structures.specs.Marks.{marked}
 use Rattle.structures.proofs.Carrying.{Carried}
 use Rattle.structures.proofs.Reading.{parents_left, ReadingParents}
-use Rattle.structures.proofs.tree.methods.TreeStructure.choice.Given as goal
+use Rattle.structures.proofs.tree.TreeStructure.choice.Given as goal
 
 abbrev pub invariant-loop-node : goal.invariant-loop-node
 invariant-loop-node l = record {

@@ -4,7 +4,7 @@ use Rattle.structures.specs.Sets.{both}
 use Rattle.structures.specs.Strata.{stratum_at, of_stratum}
 use Rattle.structures.proofs.Masks.{Masked}
 use Rattle.structures.proofs.Reading.{position, Reading}
-use Rattle.structures.proofs.strata.methods.StrataStructure.choice.Given as goal
+use Rattle.structures.proofs.strata.StrataStructure.choice.Given as goal
 
 -- the bytes so far mark the marked units of the stratum
 abbrev pub invariant-loop-unit : goal.invariant-loop-unit
