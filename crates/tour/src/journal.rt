@@ -51,6 +51,7 @@ pub(crate) fn print_step<S: Structure>(
 
 // The gates on the roll, by name.
 pub(crate) fn print_roll<S: Structure>(rt: &impl Print, draw: &Draw<S>) -> anyhow::Result<()> {
+    // A list of its own to be written into: a roll asks for no memory.
     let mut list = [0u16; 1024];
     let drawn = draw.roll(&mut list)?;
     println!(rt; "")?;
