@@ -31,6 +31,7 @@ impl<S> Draw<S> {
         if list.len() < needed as usize {
             return Err(Fault::ListTooShort(needed));
         }
-        Ok(units.write_drawn(list))
+        units.write_drawn(list);
+        Ok(needed as usize)
     }
 }

@@ -1,7 +1,7 @@
 // The units of a draw that is set, looked through.
-ghost use Rattle.std.specs.Prelude.{◌≡◌, ℕ, ◌≤◌, not, length, ◌==◌, slice_index};
+ghost use Rattle.std.specs.Prelude.{◌≡◌, ℕ, ◌<◌, ◌≤◌, not, length, ◌==◌, slice_index};
 ghost use Rattle.pivotal.specs.Questions.{Rolled, drawn_count};
-ghost use Rattle.pivotal.specs.Register.{opened, FindsOpen};
+ghost use Rattle.pivotal.specs.Register.{drawn, opened, FindsOpen};
 
 use crate::table::UnitRecord;
 use terms::UnitNo;
@@ -51,17 +51,21 @@ impl SetUnits<'_> {
     }
 
     // Writes the numbers of the drawn units, rising, at the front of a list that has room for them.
-    pub(crate) fn write_drawn(&self, list: &mut [u16]) -> usize
+    pub(crate) fn write_drawn(&self, list: &mut [u16])
         requires { drawn_count self.now.denominator self.now.records.now ≤ length list.old }
-        ensures { Rolled self.now.denominator self.now.records.now list.old list.new result }
+        ensures { Rolled self.now.denominator self.now.records.now list.old list.new (drawn_count self.now.denominator self.now.records.now) }
     {
-        let mut written = 0;
-        for (i, record) in self.records.iter().enumerate() {
-            if record.is_drawn(self.denominator) {
-                list[written] = i as u16;
-                written += 1;
-            }
+        let drawn = (0..self.records.len() as u16).filter(|unit| self.is_drawn(*unit));
+        for (place, unit) in drawn.enumerate() {
+            list[place] = unit;
         }
-        written
+    }
+
+    // Whether a unit is drawn.
+    fn is_drawn(&self, unit: u16) -> bool
+        requires { unit < length self.now.records.now }
+        ensures { result ≡ drawn self.now.denominator self.now.records.now unit }
+    {
+        self.records[unit as usize].is_drawn(self.denominator)
     }
 }

@@ -21,4 +21,5 @@ returns-then-list-needed-clause-told g c =
 
 pub returns-clause-told : goal.returns-clause-told
 returns-clause-told g c =
-    ToldRoll.told c.in_ok-units.ensures.0 (rw c.in_ok-units.ensures.1 at c.in_default.ensures) (rw c.in_ok-units.ensures.1 at c.write_drawn.ensures)
+    let needed = rw c.in_ok-units.ensures.1 at c.count_drawn-needed.ensures in
+    rw needed (ToldRoll.told c.in_ok-units.ensures.0 (rw c.in_ok-units.ensures.1 at c.in_default.ensures) (rw c.in_ok-units.ensures.1 at c.write_drawn.ensures))

@@ -1,37 +1,43 @@
-use Rattle.std.proofs.Common.{◌≡◌, ◌+◌, ◌<◌, length, sym, arith}
-use Rattle.pivotal.proofs.Rolls.{count_few, count_part, drawn_here, passed_here, length_numbers, front_room, front_yes, front_no, front_all}
+use Rattle.std.proofs.Common.{◌≡◌, ◌+◌, ◌<◌, length, set, rules, tests, arith}
+use Rattle.std.proofs.Math.Seq.{paste}
+use Rattle.std.proofs.lemmas.Iterator.{YieldsList, YieldsList-from_range}
+use Rattle.std.proofs.lemmas.Iterator.Consumers.{YieldsList-at, YieldsList-from_filter, YieldsList-from_enumerate}
+use Rattle.std.proofs.lemmas.List.{length_push}
+use Rattle.std.proofs.lemmas.List.Edits.{paste_none}
+use Rattle.std.specs.List.{enumerate_from}
+use Rattle.pivotal.proofs.Rolls.{drawn_numbers, next_written, all_written}
+use Rattle.pivotal.proofs.set_units.SetUnits.write_drawn.Given as given
 use Rattle.pivotal.proofs.set_units.SetUnits.write_drawn.Goals as goal
-use Rattle.pivotal.proofs.set_units.SetUnits.write_drawn.Goals.{then-is_drawn, else-is_drawn}
+use Rattle.pivotal.proofs.set_units.SetUnits.write_drawn.Goals.{After-into_iter-place-iterator, In-Some}
+use Rattle.pivotal.specs.Register.{drawn}
 
--- there is a place for the number of a drawn unit
-room : (c : goal.Then-is_drawn) → c.loop-i.written < length c.args.list.now
-room c =
+-- the loop goes over the numbers of the drawn units, each with its place
+road : (c : After-into_iter-place-iterator) → YieldsList given.iterator-loop-place.next_gives (λ p. p) c.into_iter-place-iterator.result (enumerate_from 0 (drawn_numbers c.args.self.now.denominator c.args.self.now.records.now))
+road c =
     let rows = c.args.self.now.records.now in
-    let l : c.loop-i.i < length rows = omega arith in
-    front_room c.loop-i.invariant c.requires l (drawn_here _ rows _ l (sym c.if-is_drawn.ensures))
+    let made = c.filter-drawn.ensures in
+    let placed = c.enumerate-place-items.ensures in
+    YieldsList-at c.into_iter-place-iterator.ensures.into_iter_gives (YieldsList-from_enumerate (YieldsList-at placed.source
+    (YieldsList-from_filter _ (drawn c.args.self.now.denominator rows) (YieldsList-from_range 0 (length rows) (length rows) made.source (omega arith)) made.closure (λ i b q k. search (rules, tests)))) placed.count)
 
-pub bounds-list-written : goal.bounds-list-written
-bounds-list-written c = omega (arith, room c)
+-- what one turn does
+turn : (c : In-Some) →
+    let numbers = drawn_numbers c.args.self.now.denominator c.args.self.now.records.now in
+    let come = length c.loop-place.yielded in
+    (c.in-Some.place < length c.args.list.now) × (set (paste c.args.list.now 0 numbers come) c.in-Some.place c.in-Some.unit ≡ paste c.args.list.now 0 numbers (come + 1))
+turn c = next_written c.args.self.now.denominator c.args.self.now.records.now (road (goal.at.bounds-list-place c).After-into_iter-place-iterator) _ _ _ c.loop-place.yielded_by _ c.next.ensures.steps _ c.requires _ _ c.in-Some.is
 
-pub loop-i-preserved : goal.loop-i-preserved
-loop-i-preserved c =
-    let rows = c.args.self.now.records.now in
-    let l : c.loop-i.i < length rows = omega arith in
-    elim c.if-is_drawn.branch [
-      | then-is_drawn w ↦
-          let e = drawn_here c.args.self.now.denominator rows c.loop-i.i l (sym w.if-is_drawn.ensures) in
-          let next : c.if-is_drawn.written ≡ c.loop-i.written + 1 = omega (
-            arith,
-            c.loop-i.invariant.many_is,
-            length_numbers c.args.self.now.denominator rows c.loop-i.i (omega arith),
-            count_part c.args.self.now.denominator rows c.loop-i.i,
-            count_few c.args.self.now.denominator rows,
-          ) in
-          rw (w.list-is, next) (front_yes c.loop-i.invariant (front_room c.loop-i.invariant c.requires l e) e)
-      | else-is_drawn w ↦
-          rw (w.list-is, w.written-is) (front_no c.loop-i.invariant (passed_here c.args.self.now.denominator rows c.loop-i.i (sym w.if-is_drawn.ensures)))
-    ]
+pub loop-place-init : goal.loop-place-init
+loop-place-init c = paste_none c.args.list.now 0 (drawn_numbers c.args.self.now.denominator c.args.self.now.records.now)
+
+pub offset_bounds-list-place : goal.offset_bounds-list-place
+offset_bounds-list-place c = let l = (turn c).0 in search rules
+
+pub bounds-list-place : goal.bounds-list-place
+bounds-list-place c = omega (arith, (turn c).0)
+
+pub loop-place-preserved : goal.loop-place-preserved
+loop-place-preserved c = rw (length_push c.loop-place.yielded (c.in-Some.place, c.in-Some.unit), c.loop-place.invariant) (turn c).1
 
 pub returns : goal.returns
-returns c =
-    front_all c.loop-i.invariant c.requires (omega arith)
+returns c = all_written c.args.self.now.denominator c.args.self.now.records.now (road (goal.at.returns c).After-into_iter-place-iterator) _ _ _ c.loop-place.yielded_by _ c.next.ensures.steps _ c.requires c.in-None.is _ c.loop-place.invariant
