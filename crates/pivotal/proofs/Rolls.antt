@@ -51,15 +51,17 @@ same_many p test a [] agree = refl
 same_many p test a (unit ∷ rows) agree =
     let here : p a ≡ test unit = ap p (sym (add-zero a)) ∙ agree 0 (omega arith) in
     let old = same_many p test (a + 1) rows (λ i h. ap p (omega arith) ∙ agree (suc i) (omega arith)) in
-    sym (sum_by-cons (λ x. cond (test x) 1 0) unit rows ∙ elim (cases_Bool (test unit)) [ inl t ↦ rw (here, t) (omega (arith, old)) | inr t ↦ rw (here, t) (omega (arith, old)) ])
+    sym (sum_by-cons (λ x. cond (test x) 1 0) unit rows ∙
+    elim (cases_Bool (test unit)) [ inl t ↦ rw (here, t) (omega (arith, old)) | inr t ↦ rw (here, t) (omega (arith, old)) ])
 
 -- and as many as a count finds
 pub length_roll : (D : ℕ) (rows : List UnitRecord) → length (drawn_numbers D rows) ≡ drawn_count D rows
 length_roll D rows = same_many (drawn D rows) (λ unit. eqb unit.present D) 0 rows (λ i h. rw (zero-add i, lt-ltb i (length rows) h) refl)
 
 -- The drawn units come one by one, each with its place, and are written at their places behind those that have come.
-module _ {S : Type 0} {steps : S → Option (ℕ × ℕ) → S → Type 0} {s : S} (D : ℕ) (rows : List UnitRecord) (road : YieldsList steps (λ p. p) s (enumerate_from 0 (drawn_numbers D rows)))
-    (come : List (ℕ × ℕ)) (t u : S) (yields : Yields steps s come t) (r : Option (ℕ × ℕ)) (step : steps t r u) (list : List ℕ) (room : drawn_count D rows ≤ length list) where
+module _ {S : Type 0} {steps : S → Option (ℕ × ℕ) → S → Type 0} {s : S} (D : ℕ) (rows : List UnitRecord)
+    (road : YieldsList steps (λ p. p) s (enumerate_from 0 (drawn_numbers D rows))) (come : List (ℕ × ℕ)) (t u : S) (yields : Yields steps s come t)
+    (r : Option (ℕ × ℕ)) (step : steps t r u) (list : List ℕ) (room : drawn_count D rows ≤ length list) where
   abbrev numbers : List ℕ
   numbers = drawn_numbers D rows
 
@@ -72,7 +74,8 @@ module _ {S : Type 0} {steps : S → Option (ℕ × ℕ) → S → Type 0} {s : 
       let space : length come < length list = omega (arith, more, length_roll D rows) in
       let pair = p.1 ∙ get_or-enumerate_from 0 numbers (length come) (place, unit) more in
       let here = ap (λ q. q.0) pair in
-      (omega (arith, here, space), rw here (ap (set (paste list 0 numbers (length come)) (0 + length come)) (ap (λ q. q.1) pair) ∙ paste_more list 0 numbers (length come) unit (omega (arith, space)) more))
+      let unit_is = ap (set (paste list 0 numbers (length come)) (0 + length come)) (ap (λ q. q.1) pair) in
+      (omega (arith, here, space), rw here (unit_is ∙ paste_more list 0 numbers (length come) unit (omega (arith, space)) more))
 
   -- and at the end all are.
   pub all_written : r ≡ None → (list' : List ℕ) → list' ≡ paste list 0 numbers (length come) → Rolled D rows list list' (drawn_count D rows)
