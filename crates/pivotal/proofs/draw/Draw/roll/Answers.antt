@@ -1,6 +1,7 @@
 use Rattle.std.proofs.Common.{refl, ap, arith}
 use Rattle.std.proofs.lemmas.Result.{err_from_is_err_and}
 use Rattle.pivotal.proofs.Rolls.{roll_numbers, length_roll}
+use Rattle.pivotal.proofs.Told.{roll_told}
 use Rattle.pivotal.proofs.draw.Draw.roll.Goals as goal
 use Rattle.pivotal.specs.Questions.{ToldRoll}
 
@@ -22,4 +23,4 @@ returns-then-list-needed-clause-told g c =
 pub returns-clause-told : goal.returns-clause-told
 returns-clause-told g c =
     let needed = rw c.in_ok-units.ensures.1 at c.count_drawn-needed.ensures in
-    rw needed (ToldRoll.told c.in_ok-units.ensures.0 (rw c.in_ok-units.ensures.1 at c.in_default.ensures) (rw c.in_ok-units.ensures.1 at c.write_drawn.ensures))
+    roll_told _ _ (omega arith) (ToldRoll.told c.in_ok-units.ensures.0 (rw c.in_ok-units.ensures.1 at c.in_default.ensures) (rw c.in_ok-units.ensures.1 at c.write_drawn.ensures))
