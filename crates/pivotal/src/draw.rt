@@ -1,8 +1,8 @@
 // A draw over a structure.
-ghost use Rattle.std.specs.Prelude.{◌≡◌, ◌≤◌, [], IfErr, MatchResult, Some, None, vec_len, vec_capacity};
+ghost use Rattle.std.specs.Prelude.{◌≡◌, ◌≤◌, [], MatchResult, Some, None, vec_len, vec_capacity};
 ghost use Rattle.pivotal.specs.Adding.{Added};
 ghost use Rattle.pivotal.specs.Register.{register, Measured};
-ghost use Rattle.terms.specs.Faults.{tells};
+ghost use Rattle.terms.specs.Faults.{tells, OutOfMemoryOnlyIf};
 
 use crate::set_units::SetUnits;
 use crate::table::{Table, UnitRecord};
@@ -40,7 +40,7 @@ impl<S: Structure> Draw<S> {
     // had no room left.
     pub fn add(&mut self, measure: u32) -> Result<UnitNo, Fault>
         ensures added { Added (S.Structure.meaning self.old.structure) (register self.old.table) measure (register self.new.table) result }
-        ensures memory { IfErr result (λ fault. tells fault ≡ (99, 0) → vec_capacity self.old.table.records ≤ vec_len self.old.table.records) }
+        ensures memory { OutOfMemoryOnlyIf result (vec_capacity self.old.table.records ≤ vec_len self.old.table.records) }
         ensures same_structure { self.new.structure ≡ self.old.structure }
     {
         if self.table.denominator.is_some() {

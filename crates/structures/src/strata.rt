@@ -1,6 +1,6 @@
 // Strata on top of another structure: its units are divided into groups, and pairs are made within a
 // group as long as that is possible.
-ghost use Rattle.std.specs.Prelude.{◌≡◌, ℕ, ◌+◌, ◌<◌, ◌≤◌, true, [], length, is_err, IfErr, slice_index};
+ghost use Rattle.std.specs.Prelude.{◌≡◌, ℕ, ◌+◌, ◌<◌, ◌≤◌, [], length, slice_index, OnErr};
 ghost use Rattle.std.specs.Option.{option_map};
 ghost use Rattle.structures.specs.Extremes.{FirstFound};
 ghost use Rattle.structures.specs.Lowest.{lowest};
@@ -9,7 +9,7 @@ ghost use Rattle.structures.specs.Sets.{both};
 ghost use Rattle.structures.specs.Strata.{InStrata, stratum_at, of_stratum, stratum_has_two, RangesInOrder, Stratified};
 ghost use Rattle.structures.specs.StrataLaws.{layer};
 ghost use Rattle.terms.specs.Counts.{count as counted};
-ghost use Rattle.terms.specs.Faults.{tells};
+ghost use Rattle.terms.specs.Faults.{OutOfMemoryOnlyIf};
 
 use crate::structure::{Audited, Structure};
 use std::alloc::Global;
@@ -54,8 +54,8 @@ impl<B: Audited> Strata<B> {
     // only where there are numbers to copy.
     pub fn fill(&mut self, count: u32, strata: &[StratumNo]) -> Result<(), Fault>
         ensures filled { Stratified (B.Structure.meaning self.old.below) count strata.now self.new.count self.new.strata.items result }
-        ensures memory { IfErr result (λ fault. tells fault ≡ (99, 0) → 1 ≤ length strata.now) }
-        ensures kept { is_err result ≡ true → self.new ≡ self.old }
+        ensures memory { OutOfMemoryOnlyIf result (1 ≤ length strata.now) }
+        ensures kept { OnErr result (self.new ≡ self.old) }
         ensures same_below { self.new.below ≡ self.old.below }
     {
         if count == 0 || count > MAX_STRATA || strata.len() != self.below.units() as usize {

@@ -1,14 +1,14 @@
 // The drainage tree of a waterway, with units along its reaches.
 mod held;
 
-ghost use Rattle.std.specs.Prelude.{◌≡◌, ℕ, ◌≤◌, true, [], length, is_err, IfErr, MatchResult};
+ghost use Rattle.std.specs.Prelude.{◌≡◌, ℕ, ◌≤◌, [], length, MatchResult, OnErr};
 ghost use Rattle.structures.specs.Drainage.{node_at, falls, InOrder, FirstBroken, Housed, FirstHomeless, Drainage, CatchmentsAreDrained};
 ghost use Rattle.structures.specs.Extremes.{HighestFound};
 ghost use Rattle.structures.specs.Held.{Kept};
 ghost use Rattle.structures.specs.Lowest.{LowestFound};
 ghost use Rattle.structures.specs.Marks.{marked};
 ghost use Rattle.structures.specs.Tree.{tree, Filled};
-ghost use Rattle.terms.specs.Faults.{tells};
+ghost use Rattle.terms.specs.Faults.{tells, OutOfMemoryOnlyIf};
 
 use crate::limits::within_limit;
 use crate::structure::{Audited, Structure};
@@ -88,8 +88,8 @@ impl Tree {
     // nodes.
     pub fn fill(&mut self, parents: &[NodeNo], homes: &[NodeNo]) -> Result<(), Fault>
         ensures filled { Filled parents.now homes.now self.new.parents.items self.new.homes.items result }
-        ensures memory { IfErr result (λ fault. tells fault ≡ (99, 0) → 1 ≤ length parents.now) }
-        ensures kept { is_err result ≡ true → self.new ≡ self.old }
+        ensures memory { OutOfMemoryOnlyIf result (1 ≤ length parents.now) }
+        ensures kept { OnErr result (self.new ≡ self.old) }
     {
         within_limit(parents.len())?;
         within_limit(homes.len())?;

@@ -1,5 +1,5 @@
 -- What a fault tells.
-use Rattle.std.specs.Prelude.{ℕ, Some, None}
+use Rattle.std.specs.Prelude.{◌≡◌, ℕ, Some, None, IfErr, Result}
 use Rattle.terms.specs.declared.fault.Fault.{Fault}
 use Rattle.terms.specs.declared.fault.Fault.TheVariants.{AlreadySet, RegisterFull, MeasureOutOfRange, UnitsMissing, SizeOutOfRange, DenominatorOutOfRange, BoundOutOfRange, WordsEnded, WordsRejected, NotSet, NothingOpen, LimitTooHigh, NumberTooHigh, StillOpen, ListTooShort, SetByRates, StructureTooLarge, ParentOutOfOrder, HomeTooHigh, StrataOutOfRange, StratumTooHigh, TooManyRanges, SpanOutOfRange, WordOutOfRange, SeedOutOfRange, NoMemory}
 
@@ -32,3 +32,7 @@ tells SpanOutOfRange = (23, 0)
 tells (WordOutOfRange position) = (23, position)
 tells SeedOutOfRange = (24, 0)
 tells NoMemory = (99, 0)
+
+-- An answer tells want of memory only where P holds.
+abbrev pub OutOfMemoryOnlyIf : {A : Type 0} → Result A Fault → Type 0 → Type 0
+OutOfMemoryOnlyIf answer P = IfErr answer (λ fault. tells fault ≡ (99, 0) → P)

@@ -1,6 +1,6 @@
 // A tape: words that the caller gives, read once from their start.
-ghost use Rattle.std.specs.Prelude.{◌≡◌, ◌≤◌, true, length, is_err, IfErr};
-ghost use Rattle.terms.specs.Faults.{tells};
+ghost use Rattle.std.specs.Prelude.{◌≡◌, ◌≤◌, length, OnErr};
+ghost use Rattle.terms.specs.Faults.{OutOfMemoryOnlyIf};
 ghost use Rattle.words.specs.Listed.{InSpan};
 
 use crate::source::WordSource;
@@ -41,8 +41,8 @@ impl Tape {
     // is told only where there are words to copy.
     pub fn fill(&mut self, span: u64, words: &[u32]) -> Result<(), Fault>
         ensures filled { Filled (tape_source self.old) span words.now (tape_source self.new) result }
-        ensures memory { IfErr result (λ fault. tells fault ≡ (99, 0) → 1 ≤ length words.now) }
-        ensures kept { is_err result ≡ true → self.new ≡ self.old }
+        ensures memory { OutOfMemoryOnlyIf result (1 ≤ length words.now) }
+        ensures kept { OnErr result (self.new ≡ self.old) }
     {
         if span == 0 || span > MAX_SPAN {
             return Err(Fault::SpanOutOfRange);
