@@ -17,7 +17,8 @@ impl<S> Draw<S> {
     }
 
     // Writes the numbers of the drawn units, rising, at the front of the list, and tells how many
-    // there are. What stands behind them in the list is left as it was.
+    // there are. What stands behind them in the list is left as it was. It is the caller's list, since a
+    // roll asks for no memory.
     #[tactic(auto, using(crate::proofs::OneRoll::roll_is_determined))]
     pub fn roll(&self, list: &mut [u16]) -> Result<usize, Fault>
         ensures told { ToldRoll (register self.now.table) list.old list.new result }

@@ -26,8 +26,8 @@ impl SetUnits<'_> {
         Some(UnitNo(lowest as u16))
     }
 
-    // A byte for each unit that there can be: 1 where the unit is open, else 0. Written by place: of bytes
-    // lent by `iter_mut` beside the records no proof was found.
+    // A byte for each unit that there can be: 1 where the unit is open, else 0. Fixed memory, written by
+    // place: with `iter_mut` under a `zip`, and with `array::from_fn`, the proof did not close.
     pub(crate) fn open_marks(&self) -> [u8; 1024]
         ensures len { length result ≡ 1024 }
         ensures marks { (i : ℕ) → not (slice_index result i == 0) ≡ opened self.now.denominator self.now.records.now i }
@@ -56,6 +56,7 @@ impl SetUnits<'_> {
         ensures { Rolled self.now.denominator self.now.records.now list.old list.new (drawn_count self.now.denominator self.now.records.now) }
     {
         let drawn = (0..self.records.len() as u16).filter(|unit| self.is_drawn(*unit));
+        // By place: of places lent by `iter_mut` a proof would not know what is written.
         for (place, unit) in drawn.enumerate() {
             list[place] = unit;
         }

@@ -20,6 +20,7 @@ pub struct StepRecord {
     pub number: u32,
 }
 
+// The denominator is handed on by the step, which has asked whether the table is set.
 impl Table {
     // Settles two open units against each other.
     pub(crate) fn settle_pair<W: WordSource>(
@@ -51,7 +52,8 @@ impl Table {
         })
     }
 
-    // Settles the unit that is open alone against what it lacks of the denominator.
+    // Settles the unit that is open alone against what it lacks of the denominator. A function of its own:
+    // one for both, over a second unit that may be missing, would have to ask for it three times.
     pub(crate) fn settle_alone<W: WordSource>(
         &mut self,
         denominator: u32,

@@ -23,6 +23,7 @@ pub(crate) struct Table {
     pub(crate) denominator: Option<u32>,
 }
 
+// A record does not know the denominator, which all of them share, and is told it.
 impl UnitRecord {
     // Whether the unit's numerator lies between 0 and the denominator.
     pub(crate) fn is_open(&self, denominator: u32) -> bool

@@ -1,5 +1,5 @@
-// Worked examples and edges, each run after it is proved. A refusal is compared by its number and
-// its place.
+// Worked examples and edges, each run after it is proved. A refusal is compared by what it tells, since
+// its number and its place are promised, and not its case.
 use crate::Draw;
 use crate::settling::settle;
 use crate::table::{Table, UnitRecord};

@@ -1,6 +1,7 @@
 // Structures over a register: which units are paired, and whose shares are kept.
 #![tactic(auto)]
 
+mod copying;
 mod limits;
 mod line;
 mod loose;

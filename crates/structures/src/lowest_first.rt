@@ -11,7 +11,8 @@ use std::alloc::AllocError;
 use std::marker::PhantomData;
 use terms::{Fault, RangeNo, UnitNo};
 
-// The ranges that are kept over any number of units.
+// The ranges that are kept over any number of units. `few` goes with the number everywhere, since only
+// up to 1,024 units have a meaning.
 pub trait KeptRanges {
     // What so many units and their ranges mean, with the laws of a structure.
     ghost meaning: { (n : ℕ) → n ≤ 1024 → Meaning };

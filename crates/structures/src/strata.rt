@@ -11,6 +11,7 @@ ghost use Rattle.structures.specs.StrataLaws.{layer};
 ghost use Rattle.terms.specs.Counts.{count as counted};
 ghost use Rattle.terms.specs.Faults.{OutOfMemoryOnlyIf};
 
+use crate::copying::copied;
 use crate::structure::{Audited, Structure};
 use std::alloc::Global;
 use terms::{Fault, RangeNo, StratumNo, UnitNo};
@@ -67,11 +68,9 @@ impl<B: Audited> Strata<B> {
         if count as u64 * self.width() > MAX_RANGES {
             return Err(Fault::TooManyRanges);
         }
-        // The only step that can fail comes before any change. It is no `Vec::from_slice`, which does not
-        // promise that want of memory is told only where there is something to copy.
-        let mut copied = Vec::new(self.heap);
-        copied.extend_from_slice(strata)?;
-        self.strata = copied;
+        // The only step that can fail comes before any change.
+        let numbers = copied(self.heap, strata)?;
+        self.strata = numbers;
         self.count = count as u8;
         Ok(())
     }
@@ -90,7 +89,8 @@ impl<B: Audited> Strata<B> {
         self.strata.get(unit).copied().unwrap_or(StratumNo(0))
     }
 
-    // How many marked units each stratum has, with a place for every stratum that there can be.
+    // How many marked units each stratum has, with a place for every stratum that there can be: fixed
+    // memory, as a draw must not allocate while it steps.
     fn counts(&self, marks: &[u8]) -> [u16; 64]
         ensures len { length result ≡ 64 }
         ensures counts { (u : ℕ) → u < 64 → slice_index result u ≡ counted (both (marked (B.Structure.meaning self.now.below).units marks.now) (of_stratum (stratum_at self.now.strata.items) u)) (B.Structure.meaning self.now.below).units }
@@ -129,8 +129,8 @@ impl<B: Audited> Structure for Strata<B> {
         let Some(stratum) = self.lowest_with_two(marks) else {
             return self.below.choice(marks);
         };
-        // What is lent below marks the units of this stratum alone. It is fixed memory on purpose: a draw
-        // must not allocate while it steps.
+        // What is lent below marks the units of this stratum alone. It is fixed memory on purpose, as a draw
+        // must not allocate, and written by place: of bytes lent by `iter_mut` a proof knows no value.
         let mut masked = [0u8; 1024];
         for (unit, mark) in marks.iter().enumerate().take(self.below.units() as usize) {
             if *mark != 0 && self.stratum_of(unit) == stratum {

@@ -1,4 +1,5 @@
-// What the structures answer on small and on the largest cases.
+// What the structures answer on small and on the largest cases. A refusal is compared by what it tells,
+// since its number and its place are promised, and not its case.
 mod strata;
 mod tree;
 

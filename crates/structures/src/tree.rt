@@ -10,6 +10,7 @@ ghost use Rattle.structures.specs.Marks.{marked};
 ghost use Rattle.structures.specs.Tree.{tree, Filled};
 ghost use Rattle.terms.specs.Faults.{tells, OutOfMemoryOnlyIf};
 
+use crate::copying::copied;
 use crate::limits::within_limit;
 use crate::structure::{Audited, Structure};
 use held::Held;
@@ -95,12 +96,9 @@ impl Tree {
         within_limit(homes.len())?;
         check_parents(parents)?;
         check_homes(parents.len(), homes)?;
-        // Both copies are made before any change. They are no `Vec::from_slice`, which does not promise
-        // that want of memory is told only where there is something to copy.
-        let mut drained = Vec::new(self.heap);
-        drained.extend_from_slice(parents)?;
-        let mut housed = Vec::new(self.heap);
-        housed.extend_from_slice(homes)?;
+        // Both copies are made before any change.
+        let drained = copied(self.heap, parents)?;
+        let housed = copied(self.heap, homes)?;
         self.parents = drained;
         self.homes = housed;
         Ok(())
@@ -158,7 +156,7 @@ impl Audited for Tree {
             return false;
         };
         let mut node = home.0;
-        // A `while`, since it follows parents and counts no index.
+        // By hand, since it follows parents and counts no index.
         while node as u32 > range.0 {
             node = self.parents[node as usize].0;
         }

@@ -136,6 +136,7 @@ impl From<AllocError> for Fault {
     }
 }
 
+// The library has two errors for want of memory, and `?` wants an impl for each.
 impl<T: Drop> From<AllocFailed<T>> for Fault {
     ghost from_gives = { λ _ r. tells r ≡ (99, 0) };
 

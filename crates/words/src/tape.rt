@@ -15,7 +15,8 @@ pub struct Tape {
     // Where the words of the next filling are kept.
     heap: Global,
     span: u64,
-    // With a position: the library's owning iterator does not promise to stay as it is at its end.
+    // With a position: the library's owning iterator does not promise to stay as it is at its end, so
+    // that each reading would have to ask it first whether it is there.
     words: Vec<u32>,
     // The first word not yet taken.
     position: usize,

@@ -1,4 +1,5 @@
-// Words and drawings on examples. A refusal is compared by its number and its place.
+// Words and drawings on examples. A refusal is compared by what it tells, since its number and its place
+// are promised, and not its case.
 use crate::drawing::draw_below;
 use crate::park_miller::ParkMiller;
 use crate::source::WordSource;

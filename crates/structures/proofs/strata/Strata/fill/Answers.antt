@@ -1,5 +1,5 @@
 -- Each way out is one case of `Stratified`.
-use Rattle.std.proofs.Common.{◌≡◌, ℕ, ◌*◌, ◌<◌, ◌≤◌, List, length, vec_items, sym, refl, ap, ◌∙◌, subst, inl, inr, arith, rules}
+use Rattle.std.proofs.Common.{ℕ, ◌*◌, ◌<◌, ◌≤◌, List, length, sym, refl, ap, ◌∙◌, subst, inl, inr, arith, rules}
 use Rattle.std.proofs.lemmas.List.{get_or_past}
 use Rattle.std.proofs.lemmas.Result.{err_from_is_err_and}
 use Rattle.std.proofs.lemmas.Bool.{cases_lt}
@@ -48,19 +48,16 @@ returns-then-count-width-gt-MAX_RANGES-clause-filled g c =
     Stratified.too_many_ranges (c.if-strata-units.false ∙ c.units.ensures) (known g (goal.at.returns-then-count-width-gt-MAX_RANGES-clause-filled g c).In_default)
     (omega (arith, ap (λ w. c.args.count * w) c.width.ensures, c.if-count-width-gt-MAX_RANGES.true)) refl
 
-pub returns-in_err-extend_from_slice-clause-filled : goal.returns-in_err-extend_from_slice-clause-filled
-returns-in_err-extend_from_slice-clause-filled g c =
+pub returns-in_err-numbers-clause-filled : goal.returns-in_err-numbers-clause-filled
+returns-in_err-numbers-clause-filled g c =
     let p = err_from_is_err_and c.from_residual.result c.from_residual.ensures.1 in
-    rw p.1 (Stratified.no_memory (c.if-strata-units.false ∙ c.units.ensures) (known g (goal.at.returns-in_err-extend_from_slice-clause-filled g c).In_default)
-    (omega (arith, ap (λ w. c.args.count * w) c.width.ensures, c.if-count-width-gt-MAX_RANGES.false)) p.2)
+    rw (p.1, p.2) (Stratified.no_memory (c.if-strata-units.false ∙ c.units.ensures) (known g (goal.at.returns-in_err-numbers-clause-filled g c).In_default)
+    (omega (arith, ap (λ w. c.args.count * w) c.width.ensures, c.if-count-width-gt-MAX_RANGES.false)) c.in_err-numbers.ensures.1)
 
 pub invariant_of-self : goal.invariant_of-self
-invariant_of-self g c =
-    let copied : vec_items c.extend_from_slice.new.self ≡ c.args.strata.now = search rules in
-    record { ok = subst (InStrata c.args.count) (sym copied) (known g (goal.at.invariant_of-self g c).In_default) }
+invariant_of-self g c = record { ok = subst (InStrata c.args.count) (sym c.in_ok-numbers.ensures) (known g (goal.at.invariant_of-self g c).In_default) }
 
 pub returns-clause-filled : goal.returns-clause-filled
 returns-clause-filled g c =
-    let copied : vec_items c.extend_from_slice.new.self ≡ c.args.strata.now = search rules in
     Stratified.stratified (c.if-strata-units.false ∙ c.units.ensures) (known g (goal.at.returns-clause-filled g c).In_default)
-    (omega (arith, ap (λ w. c.args.count * w) c.width.ensures, c.if-count-width-gt-MAX_RANGES.false)) refl copied
+    (omega (arith, ap (λ w. c.args.count * w) c.width.ensures, c.if-count-width-gt-MAX_RANGES.false)) refl c.in_ok-numbers.ensures

@@ -1,5 +1,5 @@
 -- Each way out is one case of `Filled`.
-use Rattle.std.proofs.Common.{◌≡◌, vec_items, inl, inr, rules}
+use Rattle.std.proofs.Common.{inl, inr}
 use Rattle.std.proofs.lemmas.Result.{err_from_is_err_and}
 use Rattle.structures.specs.Drainage.{Drainage}
 use Rattle.structures.specs.Tree.{Filled}
@@ -39,18 +39,16 @@ drainage c = (
   c.in_ok-check_homes.ensures,
 )
 
-pub returns-in_err-extend_from_slice-clause-filled : goal.returns-in_err-extend_from_slice-clause-filled
-returns-in_err-extend_from_slice-clause-filled c =
-    let p = err_from_is_err_and c.from_residual-in_err-extend_from_slice.result c.from_residual-in_err-extend_from_slice.ensures.1 in
-    rw p.1 (Filled.no_memory (drainage (goal.at.returns-in_err-extend_from_slice-clause-filled c).In_ok-check_homes) p.2)
+pub returns-in_err-drained-clause-filled : goal.returns-in_err-drained-clause-filled
+returns-in_err-drained-clause-filled c =
+    let p = err_from_is_err_and c.from_residual-in_err-drained.result c.from_residual-in_err-drained.ensures.1 in
+    rw (p.1, p.2) (Filled.no_memory (drainage (goal.at.returns-in_err-drained-clause-filled c).In_ok-check_homes) c.in_err-drained.ensures.1)
 
-pub returns-in_err-extend_from_slice-2-clause-filled : goal.returns-in_err-extend_from_slice-2-clause-filled
-returns-in_err-extend_from_slice-2-clause-filled c =
-    let p = err_from_is_err_and c.from_residual-in_err-extend_from_slice-2.result c.from_residual-in_err-extend_from_slice-2.ensures.1 in
-    rw p.1 (Filled.no_memory (drainage (goal.at.returns-in_err-extend_from_slice-2-clause-filled c).In_ok-check_homes) p.2)
+pub returns-in_err-housed-clause-filled : goal.returns-in_err-housed-clause-filled
+returns-in_err-housed-clause-filled c =
+    let p = err_from_is_err_and c.from_residual-in_err-housed.result c.from_residual-in_err-housed.ensures.1 in
+    rw (p.1, p.2) (Filled.no_memory (drainage (goal.at.returns-in_err-housed-clause-filled c).In_ok-check_homes) c.in_err-housed.ensures.1)
 
 pub returns-clause-filled : goal.returns-clause-filled
 returns-clause-filled c =
-    let parents : vec_items c.extend_from_slice.new.self ≡ c.args.parents.now = search rules in
-    let homes : vec_items c.extend_from_slice-2.new.self ≡ c.args.homes.now = search rules in
-    Filled.filled (drainage (goal.at.returns-clause-filled c).In_ok-check_homes) parents homes
+    Filled.filled (drainage (goal.at.returns-clause-filled c).In_ok-check_homes) c.in_ok-drained.ensures c.in_ok-housed.ensures
