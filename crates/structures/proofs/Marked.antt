@@ -1,5 +1,8 @@
 -- What a byte says, and a list of marks, of one unit.
-use Rattle.std.proofs.Common.{◌≡◌, ℕ, ◌<◌, ◌≤◌, Bool, true, false, not, eqb, List, get_or, arith}
+use Rattle.std.proofs.Common.{◌≡◌, ℕ, ◌<◌, ◌≤◌, Bool, true, false, not, eqb, min, List, length, get_or, inl, inr, arith}
+use Rattle.std.proofs.Math.Nat.{le-min}
+use Rattle.std.proofs.lemmas.Bool.{cases_lt}
+use Rattle.std.proofs.lemmas.List.{get_or_past}
 use Rattle.std.proofs.lemmas.Bool.Decides.{nat_tests}
 use Rattle.structures.specs.Marks.{marked}
 use Rattle.terms.specs.Counts.{Within}
@@ -24,6 +27,19 @@ unmarked_by n bytes i none = grind (arith, nat_tests)
 -- and only below n.
 pub unmarked_from : (n : ℕ) (bytes : List ℕ) (i : ℕ) → n ≤ i → marked n bytes i ≡ false
 unmarked_from n bytes i h = grind (arith, nat_tests)
+
+-- No unit is marked from where the list or the units end.
+pub unmarked_behind : (n m : ℕ) (bytes : List ℕ) → m ≡ min n (length bytes) → (i : ℕ) → m ≤ i → marked n bytes i ≡ false
+unmarked_behind n m bytes e i h = elim (cases_lt i (min n (length bytes))) [
+  | inl l ↦ absurd (omega (arith, l, e, h))
+  | inr past ↦ elim (cases_lt i n) [
+    | inl below ↦ unmarked_by n bytes i (get_or_past bytes i 0 (elim (cases_lt i (length bytes)) [
+      | inl there ↦ absurd (omega (arith, past, le-min below there))
+      | inr behind ↦ behind
+    ]))
+    | inr beyond ↦ unmarked_from n bytes i beyond
+  ]
+]
 
 pub marked_within : (n : ℕ) (bytes : List ℕ) → Within n (marked n bytes)
 marked_within n bytes i e = grind (arith, nat_tests)

@@ -1,5 +1,6 @@
 -- One pass over the units, which stops at the marked ones.
-use Rattle.std.proofs.Common.{◌≡◌, ℕ, ◌+◌, ◌<◌, ◌≤◌, Bool, true, false, List, [], ◌∷◌, get_or, Some, None, Option, sym, ap, ◌∙◌, subst, inl, inr, arith, Bor}
+use Rattle.std.proofs.Common.{◌≡◌, ℕ, ◌+◌, ◌<◌, ◌≤◌, Bool, true, false, min, List, [], ◌∷◌, length, get_or, Some, None, Option, sym, ap, ◌∙◌, subst, inl, inr, arith, Bor}
+use Rattle.std.proofs.Math.Nat.{min-le_left}
 use Rattle.std.proofs.lemmas.Bool.{cases_eq, cases_lt, both_ways}
 use Rattle.std.proofs.lemmas.Bool.Decides.{nat_tests}
 use Rattle.std.proofs.iter.Yields.{nat_range_steps}
@@ -14,7 +15,7 @@ use Rattle.structures.specs.Lowest.{two_lowest}
 use Rattle.structures.specs.LowestLaws.{count_none, count_alone, none_from_few, some_from_pair}
 use Rattle.structures.specs.Marks.{marked}
 use Rattle.structures.specs.Meaning.{Units}
-use Rattle.structures.proofs.Marked.{is_mark}
+use Rattle.structures.proofs.Marked.{is_mark, unmarked_behind}
 
 -- No unit of the set is at a or above it, below n.
 abbrev NoneFrom : Units → ℕ → ℕ → Type 0
@@ -27,8 +28,8 @@ marked_here n bytes i h e = grind (arith, nat_tests)
 unmarked_here : (n : ℕ) (bytes : List ℕ) (i : ℕ) → false ≡ is_mark (get_or bytes i 0) → marked n bytes i ≡ false
 unmarked_here n bytes i e = grind (arith, nat_tests)
 
--- The pass asks f of each unit in turn, which tells whether its byte marks.
-module _ {F : Type 0} {g : Mut F (Bor ℕ × Unit {0}) Bool} (n : ℕ) (bytes : List ℕ) (f : F)
+-- The pass asks f of those of n units that have a byte, the first m, in turn; f tells whether the byte marks.
+module _ {F : Type 0} {g : Mut F (Bor ℕ × Unit {0}) Bool} (n m : ℕ) (bytes : List ℕ) (reaches : m ≡ min n (length bytes)) (f : F)
     (tells : (i : ℕ) (b : Bool) (q : F) → CalledAt g f i b q → (q ≡ f) × (b ≡ is_mark (get_or bytes i 0))) where
   abbrev J : Units
   J = marked n bytes
@@ -59,10 +60,10 @@ module _ {F : Type 0} {g : Mut F (Bor ℕ × Unit {0}) Bool} (n : ℕ) (bytes : 
 
   -- A pass that has come to unit a.
   abbrev At : Filter (Range ℕ) F → ℕ → Type 0
-  At s a = (filter_source s ≡ record { start = a; end = n }) × (filter_callee s ≡ f)
+  At s a = (filter_source s ≡ record { start = a; end = m }) × (filter_callee s ≡ f)
 
   module _ (s u : Filter (Range ℕ) F) (a : ℕ) (at : At s a) where
-    turn : (r : Option ℕ) (d : Turn s r u) → (d.1 ≡ f) × (d.2.0.end ≡ n) × (a ≤ d.2.0.start) × NoneFrom J a d.2.0.start
+    turn : (r : Option ℕ) (d : Turn s r u) → (d.1 ≡ f) × (d.2.0.end ≡ m) × (a ≤ d.2.0.start) × NoneFrom J a d.2.0.start
     turn r d =
         let p = past d.0 (filter_source s) d.2.0 d.1 d.2.1 (subst (λ q. Asks q d.0 d.1) at.1 d.3) in
         let start : (filter_source s).start ≡ a = ap (λ q. q.start) at.0 in
@@ -70,7 +71,12 @@ module _ {F : Type 0} {g : Mut F (Bor ℕ × Unit {0}) Bool} (n : ℕ) (bytes : 
 
     -- Its last turn leaves no unit behind,
     ended : Turn s None u → NoneFrom J a n
-    ended d = let p = turn None d in λ k l h. p.3 k l (omega (arith, p.1, d.2.2.1.0))
+    ended d =
+        let p = turn None d in
+        λ k l h. elim (cases_lt k m) [
+          | inl here ↦ p.3 k l (omega (arith, p.1, d.2.2.1.0))
+          | inr past ↦ unmarked_behind n m bytes reaches k past
+        ]
 
     -- and any other stops at the next marked one.
     stopped : (i : ℕ) → Turn s (Some i) u → (a ≤ i) × (i < n) × (J i ≡ true) × NoneFrom J a i × At u (i + 1)
@@ -79,9 +85,10 @@ module _ {F : Type 0} {g : Mut F (Bor ℕ × Unit {0}) Bool} (n : ℕ) (bytes : 
         let step = d.2.2 in
         let here : i ≡ d.2.0.start = step.1.1 in
         let told = tells i true (filter_callee u) (subst (λ q. CalledAt g q i true (filter_callee u)) p.0 d.4) in
-        let below : i < n = omega (arith, p.1, step.1.0, here) in
+        let reached : i < m = omega (arith, p.1, step.1.0, here) in
+        let below : i < n = omega (arith, reached, reaches, min-le_left n (length bytes)) in
         let start : (filter_source u).start ≡ i + 1 = omega (arith, step.1.2, here) in
-        let end : (filter_source u).end ≡ n = step.0 ∙ p.1 in (
+        let end : (filter_source u).end ≡ m = step.0 ∙ p.1 in (
           omega (arith, p.2, here),
           below,
           marked_here n bytes i below told.1,

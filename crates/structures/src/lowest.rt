@@ -1,5 +1,5 @@
 // The choice that several structures share.
-ghost use Rattle.std.specs.Prelude.{◌≡◌, not, ◌==◌, slice_index};
+ghost use Rattle.std.specs.Prelude.{◌≡◌, ◌<◌, not, length, ◌==◌, slice_index};
 ghost use Rattle.structures.specs.Lowest.{two_lowest};
 ghost use Rattle.structures.specs.Marks.{marked, named};
 
@@ -9,15 +9,18 @@ use terms::UnitNo;
 pub(crate) fn two_lowest(units: u16, marks: &[u8]) -> Option<(UnitNo, UnitNo)>
     ensures { named result ≡ two_lowest (marked units marks.now) units }
 {
-    let mut marked = (0..units).filter(|unit| is_marked(marks, *unit as usize));
+    // A list that is too short marks no more, so the pass ends with it.
+    let reach = (units as usize).min(marks.len()) as u16;
+    let mut marked = (0..reach).filter(|unit| is_marked(marks, *unit as usize));
     let lower = marked.next()?;
     let higher = marked.next()?;
     Some((UnitNo(lower), UnitNo(higher)))
 }
 
-// Whether the list has a byte for this unit, other than 0.
+// Whether the byte of this unit is other than 0.
 fn is_marked(marks: &[u8], unit: usize) -> bool
+    requires { unit < length marks.now }
     ensures { result ≡ not (slice_index marks.now unit == 0) }
 {
-    marks.get(unit).is_some_and(|mark| *mark != 0)
+    marks[unit] != 0
 }
