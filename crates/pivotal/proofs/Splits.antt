@@ -1,8 +1,11 @@
 -- Splits of the units, the rounds that find the one by the certain units, and what it gives.
-use Rattle.std.proofs.Common.{◌≡◌, ℕ, zero, suc, ◌+◌, ◌-◌, ◌*◌, ◌^◌, ◌<◌, ◌≤◌, cond, List, length, take, sum_by, sym, refl, ap, ◌∙◌, subst, inl, inr, add-one, arith}
+use Rattle.std.proofs.Common.{◌≡◌, ℕ, zero, suc, ◌+◌, ◌-◌, ◌*◌, ◌^◌, ◌<◌, ◌≤◌, nat_le, cond, List, length, take, sum_by, sym, refl, ap, ◌∙◌, subst, inl, inr, add-one, arith}
+use Rattle.std.proofs.Math.Nat.{mul-le-mul_right}
+use Rattle.std.proofs.lemmas.Grind.{div_ceil_times}
 use Rattle.std.proofs.lemmas.List.{take_all}
 use Rattle.std.proofs.lemmas.List.Sums.{sum_by_more}
-use Rattle.std.proofs.lemmas.Bool.{cases_eq, cond_both, eq-eqb, ne_eqb}
+use Rattle.std.proofs.lemmas.Bool.{cases_eq, cases_lt, cond_both, eq-eqb, le-leb, lt-leb, ne_eqb}
+use Rattle.std.specs.Int.{div_ceil}
 use Rattle.structures.specs.Meaning.{Units}
 use Rattle.terms.specs.Counts.{total, count}
 use Rattle.terms.proofs.Totals.{count_le}
@@ -12,6 +15,17 @@ use Rattle.pivotal.specs.Splitting.{qualifies, split_of, round_of, denominator_b
 use Rattle.pivotal.specs.declared.setting.Split.{Split}
 use Rattle.pivotal.specs.declared.table.UnitRecord.{UnitRecord}
 use Rattle.pivotal.proofs.Rounds.{Positive, Reached, all_certain, none_left, reached_round, reached_stop}
+
+-- a product with b reaches a where the other factor reaches the quotient of the two, rounded up
+pub reaches_quotient : (a b m : ℕ) → 0 < b → nat_le (div_ceil a b) m ≡ nat_le a (m * b)
+reaches_quotient a b m h =
+    let t = div_ceil_times a b h in
+    elim (cases_lt m (div_ceil a b)) [
+      | inl l ↦ let more : (m + 1) * b ≤ div_ceil a b * b = mul-le-mul_right b (omega (arith, l)) in
+          lt-leb (div_ceil a b) m l ∙ sym (lt-leb a (m * b) (omega (arith, more, t.1)))
+      | inr ge ↦ let less : div_ceil a b * b ≤ m * b = mul-le-mul_right b ge in
+          le-leb (div_ceil a b) m ge ∙ sym (le-leb a (m * b) (omega (arith, less, t.0)))
+    ]
 
 -- what measures come to
 pub total_small : (m : ℕ → ℕ) (n : ℕ) → ((i : ℕ) → i < n → m i ≤ 1000000) → total m n ≤ 1000000 * n

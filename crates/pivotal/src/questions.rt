@@ -12,7 +12,8 @@ impl<S> Draw<S> {
     pub fn unit(&self, unit: UnitNo) -> Result<UnitRecord, Fault>
         ensures { ToldUnit (register self.now.table) unit.0 result }
     {
-        let record = self.set_units()?.records.get(unit.0 as usize);
+        self.table.denominator.ok_or(Fault::NotSet)?;
+        let record = self.table.records.get(unit.0 as usize);
         record.copied().ok_or(Fault::NumberTooHigh)
     }
 

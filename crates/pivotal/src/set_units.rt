@@ -43,11 +43,10 @@ impl SetUnits<'_> {
     pub(crate) fn count_drawn(&self) -> u16
         ensures { result ≡ drawn_count self.now.denominator self.now.records.now }
     {
-        let drawn = self
-            .records
+        self.records
             .iter()
-            .filter(|record| record.is_drawn(self.denominator));
-        drawn.count() as u16
+            .map(|record| record.is_drawn(self.denominator) as u16)
+            .sum()
     }
 
     // Writes the numbers of the drawn units, rising, at the front of a list that has room for them.

@@ -38,11 +38,16 @@ impl Split {
 }
 
 impl Round {
-    // Whether a measure times the places left is at least the rest.
+    // Whether a measure times the places left is at least the rest. Told by a quotient, which is the same for
+    // all units, so that the compiler takes it out of the pass over them.
     fn makes_certain(self, measure: u32) -> bool
         ensures { result ≡ nat_le self.rest (measure * self.places) }
     {
-        measure as u64 * self.places as u64 >= self.rest as u64
+        if self.places == 0 {
+            self.rest == 0
+        } else {
+            measure >= self.rest.div_ceil(self.places)
+        }
     }
 
     // The denominator: the rest, or 1 where every unit is certain.

@@ -157,7 +157,9 @@ fn words_that_run_out(rt: HostRuntime) -> Result<(), Fail> {
     // 60 and 60 over 100 have the bound 80, above the span of 60.
     assert_eq!(rt; draw.step(&mut words).err().map(Fault::tells), Some((7, 0)));
     words.fill(81, &[80])?;
-    assert_eq!(rt; draw.step(&mut words).err().map(Fault::tells), Some((8, 1)));
+    let ended = draw.step(&mut words).err();
+    assert_eq!(rt; ended.map(|fault| fault.number()), Some(8));
+    assert_eq!(rt; ended.map(|fault| fault.place()), Some(1));
     check_presents(&rt, &draw, &[0, 60, 60, 80, 100])
 }
 
