@@ -16,7 +16,7 @@ use Rattle.pivotal.specs.declared.setting.Split.{Split}
 use Rattle.pivotal.specs.declared.table.UnitRecord.{UnitRecord}
 use Rattle.pivotal.proofs.Rounds.{Positive, Reached, all_certain, none_left, reached_round, reached_stop}
 
--- a product with b reaches a where the other factor reaches the quotient of the two, rounded up
+-- a product with b reaches a where the other factor reaches a by b, rounded up
 pub reaches_quotient : (a b m : ℕ) → 0 < b → nat_le (div_ceil a b) m ≡ nat_le a (m * b)
 reaches_quotient a b m h =
     let t = div_ceil_times a b h in

@@ -157,6 +157,7 @@ fn words_that_run_out(rt: HostRuntime) -> Result<(), Fail> {
     // 60 and 60 over 100 have the bound 80, above the span of 60.
     assert_eq!(rt; draw.step(&mut words).err().map(Fault::tells), Some((7, 0)));
     words.fill(81, &[80])?;
+    // By the calls that tell the number or the place alone.
     let ended = draw.step(&mut words).err();
     assert_eq!(rt; ended.map(|fault| fault.number()), Some(8));
     assert_eq!(rt; ended.map(|fault| fault.place()), Some(1));

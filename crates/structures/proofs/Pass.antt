@@ -29,7 +29,7 @@ unmarked_here : (n : ℕ) (bytes : List ℕ) (i : ℕ) → false ≡ is_mark (ge
 unmarked_here n bytes i e = grind (arith, nat_tests)
 
 -- The pass asks f of those of n units that have a byte, the first m, in turn; f tells whether the byte marks.
-module _ {F : Type 0} {g : Mut F (Bor ℕ × Unit {0}) Bool} (n m : ℕ) (bytes : List ℕ) (reaches : m ≡ min n (length bytes)) (f : F)
+module _ {F : Type 0} {g : Mut F (Bor ℕ × Unit {0}) Bool} (n m : ℕ) (bytes : List ℕ) (ends : m ≡ min n (length bytes)) (f : F)
     (tells : (i : ℕ) (b : Bool) (q : F) → CalledAt g f i b q → (q ≡ f) × (b ≡ is_mark (get_or bytes i 0))) where
   abbrev J : Units
   J = marked n bytes
@@ -75,7 +75,7 @@ module _ {F : Type 0} {g : Mut F (Bor ℕ × Unit {0}) Bool} (n m : ℕ) (bytes 
         let p = turn None d in
         λ k l h. elim (cases_lt k m) [
           | inl here ↦ p.3 k l (omega (arith, p.1, d.2.2.1.0))
-          | inr past ↦ unmarked_behind n m bytes reaches k past
+          | inr past ↦ unmarked_behind n m bytes ends k past
         ]
 
     -- and any other stops at the next marked one.
@@ -86,7 +86,7 @@ module _ {F : Type 0} {g : Mut F (Bor ℕ × Unit {0}) Bool} (n m : ℕ) (bytes 
         let here : i ≡ d.2.0.start = step.1.1 in
         let told = tells i true (filter_callee u) (subst (λ q. CalledAt g q i true (filter_callee u)) p.0 d.4) in
         let reached : i < m = omega (arith, p.1, step.1.0, here) in
-        let below : i < n = omega (arith, reached, reaches, min-le_left n (length bytes)) in
+        let below : i < n = omega (arith, reached, ends, min-le_left n (length bytes)) in
         let start : (filter_source u).start ≡ i + 1 = omega (arith, step.1.2, here) in
         let end : (filter_source u).end ≡ m = step.0 ∙ p.1 in (
           omega (arith, p.2, here),

@@ -9,9 +9,9 @@ use terms::UnitNo;
 pub(crate) fn two_lowest(units: u16, marks: &[u8]) -> Option<(UnitNo, UnitNo)>
     ensures { named result ≡ two_lowest (marked units marks.now) units }
 {
-    // A list that is too short marks no more, so the pass ends with it.
-    let reach = (units as usize).min(marks.len()) as u16;
-    let mut marked = (0..reach).filter(|unit| is_marked(marks, *unit as usize));
+    // Units behind the end of a short list are not marked, so the pass ends with the list.
+    let end = (units as usize).min(marks.len()) as u16;
+    let mut marked = (0..end).filter(|unit| is_marked(marks, *unit as usize));
     let lower = marked.next()?;
     let higher = marked.next()?;
     Some((UnitNo(lower), UnitNo(higher)))
